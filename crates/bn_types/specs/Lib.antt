@@ -1,0 +1,4 @@
+pub mod ExitCodes
+pub mod Numbers
+pub mod Registers
+pub mod Visible

@@ -1,0 +1,24 @@
+-- Numbers that stand in memory, little endian (Unprivileged ISA, "Load and Store Instructions").
+use Rattle.std.specs.Prelude.{ℕ, List, drop}
+use Rattle.std.specs.Int.{from_le_bytes, w8, w16, w32, w64}
+use Rattle.std.specs.Int as int
+use Rattle.bn_types.specs.declared.width.Width.{Width}
+use Rattle.bn_types.specs.declared.width.Width.TheVariants.{B1, B2, B4, B8}
+
+-- how many bytes an access of this width has
+abbrev pub bytes_of : Width → ℕ
+bytes_of B1 = 1
+bytes_of B2 = 2
+bytes_of B4 = 4
+bytes_of B8 = 8
+
+-- std's name for that width
+abbrev pub int_width : Width → int.Width
+int_width B1 = w8
+int_width B2 = w16
+int_width B4 = w32
+int_width B8 = w64
+
+-- the number of this width that stands in a page from an offset on
+unfoldable pub number_at : Width → List ℕ → ℕ → ℕ
+number_at width page offset = from_le_bytes (int_width width) (drop offset page)
