@@ -87,6 +87,9 @@ shift_of s w = insn.Shift s (rd w) (rs1 w) (shamt6 w)
 abbrev pub imm_of : ImmOp → ℕ → Insn
 imm_of o w = insn.Imm o (rd w) (rs1 w) (i_immediate w)
 
+abbrev pub shift_left : ℕ → Option Insn
+shift_left w = if funct6 w == 0b000000 then Some (shift_of shift_op.Left w) else None
+
 abbrev pub shift_right : ℕ → Option Insn
 shift_right w =
     if funct6 w == 0b000000 then Some (shift_of shift_op.Right w) else
@@ -96,7 +99,7 @@ shift_right w =
 unfoldable pub with_immediate : ℕ → Option Insn
 with_immediate w =
     if funct3 w == 0b000 then Some (imm_of imm_op.Add w) else
-    if funct3 w == 0b001 then (if funct6 w == 0b000000 then Some (shift_of shift_op.Left w) else None) else
+    if funct3 w == 0b001 then shift_left w else
     if funct3 w == 0b010 then Some (imm_of imm_op.Slt w) else
     if funct3 w == 0b011 then Some (imm_of imm_op.Sltu w) else
     if funct3 w == 0b100 then Some (imm_of imm_op.Xor w) else
@@ -141,14 +144,14 @@ of_registers w = of_registers_by (op_of (funct7 w) (funct3 w)) w
 abbrev pub shift_word_of : ShiftOp → ℕ → Insn
 shift_word_of s w = insn.ShiftW s (rd w) (rs1 w) (shamt5 w)
 
+abbrev pub shift_word_left : ℕ → Option Insn
+shift_word_left w = if funct7 w == 0b0000000 then Some (shift_word_of shift_op.Left w) else None
+
 abbrev pub shift_word_right : ℕ → Option Insn
 shift_word_right w =
     if funct7 w == 0b0000000 then Some (shift_word_of shift_op.Right w) else
     if funct7 w == 0b0100000 then Some (shift_word_of shift_op.RightSigned w) else
     None
-
-abbrev pub shift_word_left : ℕ → Option Insn
-shift_word_left w = if funct7 w == 0b0000000 then Some (shift_word_of shift_op.Left w) else None
 
 unfoldable pub word_with_immediate : ℕ → Option Insn
 word_with_immediate w =

@@ -61,9 +61,9 @@ unfoldable pub b_immediate : ℕ → ℤ
 b_immediate word =
     signed 13
     (bits 31 31 word * 2 ^ 12 +
-     bits 7 7 word * 2 ^ 11 +
-     bits 30 25 word * 2 ^ 5 +
-     bits 11 8 word * 2 ^ 1)
+    bits 7 7 word * 2 ^ 11 +
+    bits 30 25 word * 2 ^ 5 +
+    bits 11 8 word * 2 ^ 1)
 
 -- imm[31:12], where imm[11:0] are 0
 unfoldable pub u_immediate : ℕ → ℤ
@@ -74,6 +74,6 @@ unfoldable pub j_immediate : ℕ → ℤ
 j_immediate word =
     signed 21
     (bits 31 31 word * 2 ^ 20 +
-     bits 19 12 word * 2 ^ 12 +
-     bits 20 20 word * 2 ^ 11 +
-     bits 30 21 word * 2 ^ 1)
+    bits 19 12 word * 2 ^ 12 +
+    bits 20 20 word * 2 ^ 11 +
+    bits 30 21 word * 2 ^ 1)

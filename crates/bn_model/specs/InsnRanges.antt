@@ -4,13 +4,40 @@ use Rattle.bn_types.specs.declared.csr_from.CsrFrom.{CsrFrom}
 use Rattle.bn_types.specs.declared.csr_from.CsrFrom.TheVariants.{Register, Number}
 use Rattle.bn_types.specs.declared.insn.Insn.{Insn}
 use Rattle.bn_types.specs.declared.insn.Insn.TheVariants.{
-  Lui, Auipc, Jal, Jalr, Branch, Load, Store, Imm, Shift, Reg2, AddiW, ShiftW, Reg2W, Fence, Csr,
-  Ecall, Ebreak, Sret, Wfi, SfenceVma, Bastion
+  Lui,
+  Auipc,
+  Jal,
+  Jalr,
+  Branch,
+  Load,
+  Store,
+  Imm,
+  Shift,
+  Reg2,
+  AddiW,
+  ShiftW,
+  Reg2W,
+  Fence,
+  Csr,
+  Ecall,
+  Ebreak,
+  Sret,
+  Wfi,
+  SfenceVma,
+  Bastion,
 }
 use Rattle.bn_types.specs.declared.reg.Reg.{Reg}
 use Rattle.bn_types.specs.declared.secure.Secure.{Secure}
 use Rattle.bn_types.specs.declared.secure.Secure.TheVariants.{
-  Launch, Call, Ret, Evict, Ident, Caller, Offerer, Sget, Sset
+  Launch,
+  Call,
+  Ret,
+  Evict,
+  Ident,
+  Caller,
+  Offerer,
+  Sget,
+  Sset,
 }
 use Rattle.bn_types.specs.declared.width.Width.{Width}
 use Rattle.bn_types.specs.declared.width.Width.TheVariants.{B1, B2, B4, B8}
