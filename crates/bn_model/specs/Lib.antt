@@ -2,3 +2,6 @@ pub mod Decoding
 pub mod Encoding
 pub mod Fields
 pub mod InsnRanges
+pub mod Acting
+pub mod Ranges
+pub mod TwosComplement
