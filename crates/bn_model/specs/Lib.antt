@@ -1,7 +1,15 @@
+pub mod Acting
+pub mod Deciding
 pub mod Decoding
 pub mod Encoding
 pub mod Fields
 pub mod InsnRanges
-pub mod Acting
+pub mod Opening
+pub mod Placing
 pub mod Ranges
+pub mod Reporting
+pub mod Running
+pub mod Spelling
+pub mod State
+pub mod Stepping
 pub mod TwosComplement
