@@ -1,3 +1,5 @@
 pub mod Acting
+pub mod CsrFile
 pub mod Ranges
+pub mod Trapping
 pub mod TwosComplement
