@@ -12,4 +12,7 @@ pub mod Running
 pub mod Spelling
 pub mod State
 pub mod Stepping
+pub mod CsrFile
+pub mod Ranges
+pub mod Trapping
 pub mod TwosComplement

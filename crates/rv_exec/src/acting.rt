@@ -2,7 +2,9 @@ ghost use Rattle.std.specs.Prelude.{◌≡◌, ◌<◌};
 ghost use Rattle.bn_model.specs.Acting.{act_of, operand, reads, register, writes};
 ghost use Rattle.bn_model.specs.Ranges.{IsCsrFrom, IsInRange, IsRegister};
 
-use crate::arithmetic::{add_immediate, shift, shift_word, value_of_immediate, value_of_registers, value_of_words};
+use crate::arithmetic::{
+    add_immediate, shift, shift_word, value_of_immediate, value_of_registers, value_of_words,
+};
 use crate::control::{branch, clear_bit_0, is_taken, jump_to};
 use crate::extending::{extend_word, in_64_bits};
 use bn_types::{Act, CsrFrom, CsrOp, Insn, Reg, Regs};
@@ -27,19 +29,39 @@ pub fn act(insn: &Insn, regs: &Regs, pc: u64) -> Act
             value: add_immediate(pc, imm),
         },
         Insn::Jal { rd, offset } => jump_to(add_immediate(pc, offset), rd, pc),
-        Insn::Jalr { rd, base, offset } => jump_to(clear_bit_0(add_immediate(read(regs, base), offset)), rd, pc),
-        Insn::Branch { test, left, right, offset } => branch(
+        Insn::Jalr { rd, base, offset } => jump_to(
+            clear_bit_0(add_immediate(read(regs, base), offset)),
+            rd,
+            pc,
+        ),
+        Insn::Branch {
+            test,
+            left,
+            right,
+            offset,
+        } => branch(
             is_taken(test, read(regs, left), read(regs, right)),
             add_immediate(pc, offset),
             pc,
         ),
-        Insn::Load { width, signed, rd, base, offset } => Act::LoadAt {
+        Insn::Load {
+            width,
+            signed,
+            rd,
+            base,
+            offset,
+        } => Act::LoadAt {
             va: add_immediate(read(regs, base), offset),
             width,
             signed,
             rd,
         },
-        Insn::Store { width, base, value, offset } => Act::StoreAt {
+        Insn::Store {
+            width,
+            base,
+            value,
+            offset,
+        } => Act::StoreAt {
             va: add_immediate(read(regs, base), offset),
             width,
             value: read(regs, value),
@@ -48,11 +70,21 @@ pub fn act(insn: &Insn, regs: &Regs, pc: u64) -> Act
             rd,
             value: value_of_immediate(op, read(regs, left), in_64_bits(i64::from(imm))),
         },
-        Insn::Shift { op, rd, left, amount } => Act::Set {
+        Insn::Shift {
+            op,
+            rd,
+            left,
+            amount,
+        } => Act::Set {
             rd,
             value: shift(op, read(regs, left), amount),
         },
-        Insn::Reg2 { op, rd, left, right } => Act::Set {
+        Insn::Reg2 {
+            op,
+            rd,
+            left,
+            right,
+        } => Act::Set {
             rd,
             value: value_of_registers(op, read(regs, left), read(regs, right)),
         },
@@ -60,16 +92,31 @@ pub fn act(insn: &Insn, regs: &Regs, pc: u64) -> Act
             rd,
             value: extend_word(add_immediate(read(regs, left), imm)),
         },
-        Insn::ShiftW { op, rd, left, amount } => Act::Set {
+        Insn::ShiftW {
+            op,
+            rd,
+            left,
+            amount,
+        } => Act::Set {
             rd,
             value: shift_word(op, read(regs, left), amount),
         },
-        Insn::Reg2W { op, rd, left, right } => Act::Set {
+        Insn::Reg2W {
+            op,
+            rd,
+            left,
+            right,
+        } => Act::Set {
             rd,
             value: value_of_words(op, read(regs, left), read(regs, right)),
         },
         Insn::Fence { .. } => Act::Next,
-        Insn::Csr { op, number, from, rd } => Act::Csr {
+        Insn::Csr {
+            op,
+            number,
+            from,
+            rd,
+        } => Act::Csr {
             op,
             number,
             operand: operand(from, regs),

@@ -25,7 +25,11 @@ pub fn jump_to(target: u64, rd: Reg, pc: u64) -> Act
 pub fn branch(taken: bool, target: u64, pc: u64) -> Act
     ensures { result ≡ branch_if taken target pc }
 {
-    if taken { jump_to(target, Reg(0), pc) } else { Act::Next }
+    if taken {
+        jump_to(target, Reg(0), pc)
+    } else {
+        Act::Next
+    }
 }
 
 /// The number with bit 0 cleared.

@@ -11,7 +11,11 @@ use bn_types::Width;
 pub fn extend(width: Width, signed: bool, raw: u64) -> u64
     ensures { result ≡ extended width signed raw }
 {
-    if signed { extend_sign(width, raw) } else { low_bytes(width, raw) }
+    if signed {
+        extend_sign(width, raw)
+    } else {
+        low_bytes(width, raw)
+    }
 }
 
 fn extend_sign(width: Width, raw: u64) -> u64

@@ -8,3 +8,5 @@ mod acting;
 mod arithmetic;
 mod control;
 mod extending;
+#[cfg(test)]
+mod tests;
