@@ -10,7 +10,7 @@ use Rattle.bn_model.specs.Encoding.{FormatR, FormatI, FormatS, FormatB, FormatU,
 
 -- ---- a number below 2 * half, read as a two's complement
 
-abbrev two : ℕ → ℕ → ℤ
+abbrev pub two : ℕ → ℕ → ℤ
 two half n = if nat_lt n half then pos n else pos n -ℤ pos (2 * half)
 
 two-same : (half x y : ℕ) → x < 2 * half → y < 2 * half → two half x ≡ two half y → x ≡ y
