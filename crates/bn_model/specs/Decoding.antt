@@ -199,17 +199,20 @@ csr_by_register o w = insn.Csr o (funct12 w) (Register (rs1 w)) (rd w)
 abbrev pub csr_by_number : CsrOp → ℕ → Insn
 csr_by_number o w = insn.Csr o (funct12 w) (Number (rs1 w).0) (rd w)
 
+-- SFENCE.VMA
 abbrev pub fence_of_tables : ℕ → Option Insn
-fence_of_tables w =
-    if (funct7 w == 0b0001001) && is_x0 (rd w) then Some (insn.SfenceVma (rs1 w) (rs2 w)) else None
+fence_of_tables w = if is_x0 (rd w) then Some (insn.SfenceVma (rs1 w) (rs2 w)) else None
 
-unfoldable pub environment : ℕ → Option Insn
-environment w =
+abbrev pub whole_word : ℕ → Option Insn
+whole_word w =
     if w == 0x00000073 then Some insn.Ecall else
     if w == 0x00100073 then Some insn.Ebreak else
     if w == 0x10200073 then Some insn.Sret else
     if w == 0x10500073 then Some insn.Wfi else
-    fence_of_tables w
+    None
+
+unfoldable pub environment : ℕ → Option Insn
+environment w = if funct7 w == 0b0001001 then fence_of_tables w else whole_word w
 
 unfoldable pub system : ℕ → Option Insn
 system w =

@@ -1,5 +1,6 @@
 //! The fields of a word (Unprivileged ISA, "Base Instruction Formats").
 ghost use Rattle.std.specs.Prelude.{◌≡◌};
+ghost use Rattle.bn_model.specs.Decoding as decoded;
 ghost use Rattle.bn_model.specs.Fields as field;
 
 use bn_types::Reg;
@@ -72,4 +73,10 @@ pub fn rs2(word: u32) -> Reg
     ensures { result ≡ field.rs2 word }
 {
     Reg(((word >> 20) & 0x1f) as u8)
+}
+
+pub fn is_x0(register: Reg) -> bool
+    ensures { result ≡ decoded.is_x0 register }
+{
+    register.0 == 0
 }

@@ -2,14 +2,8 @@
 ghost use Rattle.std.specs.Prelude.{◌≡◌};
 ghost use Rattle.bn_model.specs.Decoding as decoded;
 
-use crate::fields::{funct3, funct7, rd, rs1, rs2};
-use bn_types::{Insn, Reg, Secure};
-
-fn is_x0(register: Reg) -> bool
-    ensures { result ≡ decoded.is_x0 register }
-{
-    register.0 == 0
-}
+use crate::fields::{funct3, funct7, is_x0, rd, rs1, rs2};
+use bn_types::{Insn, Secure};
 
 fn launch(word: u32) -> Option<Secure>
     ensures { result ≡ decoded.launch word }

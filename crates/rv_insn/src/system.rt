@@ -2,19 +2,24 @@
 ghost use Rattle.std.specs.Prelude.{◌≡◌};
 ghost use Rattle.bn_model.specs.Decoding as decoded;
 
-use crate::fields::{funct3, funct7, funct12, rd, rs1, rs2};
+use crate::fields::{funct3, funct7, funct12, is_x0, rd, rs1, rs2};
 use bn_types::{CsrFrom, CsrOp, Insn, Reg};
 
 fn fence_of_tables(word: u32) -> Option<Insn>
     ensures { result ≡ decoded.fence_of_tables word }
 {
-    if funct7(word) == 0b0001001 && rd(word).0 == 0 {
-        Some(Insn::SfenceVma {
-            rs1: rs1(word),
-            rs2: rs2(word),
-        })
-    } else {
-        None
+    if is_x0(rd(word)) { Some(Insn::SfenceVma { rs1: rs1(word), rs2: rs2(word) }) } else { None }
+}
+
+fn whole_word(word: u32) -> Option<Insn>
+    ensures { result ≡ decoded.whole_word word }
+{
+    match word {
+        0x0000_0073 => Some(Insn::Ecall),
+        0x0010_0073 => Some(Insn::Ebreak),
+        0x1020_0073 => Some(Insn::Sret),
+        0x1050_0073 => Some(Insn::Wfi),
+        _ => None,
     }
 }
 
@@ -22,12 +27,9 @@ fn fence_of_tables(word: u32) -> Option<Insn>
 fn environment(word: u32) -> Option<Insn>
     ensures { result ≡ decoded.environment word }
 {
-    match word {
-        0x0000_0073 => Some(Insn::Ecall),
-        0x0010_0073 => Some(Insn::Ebreak),
-        0x1020_0073 => Some(Insn::Sret),
-        0x1050_0073 => Some(Insn::Wfi),
-        _ => fence_of_tables(word),
+    match funct7(word) {
+        0b0001001 => fence_of_tables(word),
+        _ => whole_word(word),
     }
 }
 

@@ -1,0 +1,5 @@
+pub mod EncodingLemmas
+pub mod FieldLemmas
+pub mod FormatLemmas
+pub mod ListedLemmas
+pub mod WordLemmas
