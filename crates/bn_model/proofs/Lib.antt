@@ -1,3 +1,4 @@
+pub mod ActingLemmas
 pub mod EncodingLemmas
 pub mod FieldLemmas
 pub mod FormatLemmas
