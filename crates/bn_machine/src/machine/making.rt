@@ -1,5 +1,5 @@
 //! Turns that are made.
-ghost use Rattle.std.specs.Prelude.{◌≡◌, ◌-◌, ◌^◌, ◌<◌, ◌↔◌, IsOk, IsTrue, false, length, Ok};
+ghost use Rattle.std.specs.Prelude.{◌≡◌, ◌-◌, ◌^◌, ◌<◌, ◌↔◌, [], IsOk, IsTrue, false, length, Ok};
 ghost use Rattle.bn_model.specs.Spelling.{text_of};
 ghost use Rattle.bn_model.specs.Stepping as flat;
 ghost use Rattle.bn_machine.specs.Within.{CanBeMade, Fits, IsWithin};
