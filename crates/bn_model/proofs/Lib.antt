@@ -4,5 +4,8 @@ pub mod EncodingLemmas
 pub mod FieldLemmas
 pub mod FormatLemmas
 pub mod ListedLemmas
+pub mod MixedLists
 pub mod PageNumbers
+pub mod RunningLemmas
+pub mod SteppingLemmas
 pub mod WordLemmas
