@@ -1,4 +1,6 @@
 pub mod Filling
 pub mod Runs
+pub mod Serving
+pub mod Stories
 pub mod WholePages
 pub mod Wrote

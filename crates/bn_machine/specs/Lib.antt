@@ -1,3 +1,4 @@
+pub mod Headline
 pub mod Standing
 pub mod Telling
 pub mod Within

@@ -6,13 +6,16 @@ pub use line_buf::LineBuf;
 pub use loaded::Loaded;
 pub use machine::Machine;
 pub use settings::Settings;
+pub use top::bastion;
 pub use unbuilt::Unbuilt;
 
 mod hart;
+mod image_name;
 mod line_buf;
 mod loaded;
 mod loading;
 mod machine;
+mod report;
 mod settings;
 mod top;
 mod unbuilt;

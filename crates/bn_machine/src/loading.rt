@@ -1,5 +1,5 @@
 //! Raw images: their bytes go to the beginning of RAM.
-ghost use Rattle.std.specs.Prelude.{◌≡◌, ◌++◌, ◌-◌, ◌≤◌, IfOk, MatchOption, None, Some, length, replicate};
+ghost use Rattle.std.specs.Prelude.{◌≡◌, ◌++◌, ◌-◌, ◌≤◌, IfOk, IfSome, MatchOption, None, Some, length, replicate};
 ghost use Rattle.bn_model.specs.Opening.{is_raw_image, loaded};
 
 use std::alloc::Global;
@@ -12,8 +12,9 @@ const ELF_MAGIC: [u8; 4] = [0x7f, 0x45, 0x4c, 0x46];
 /// than RAM or begins as an ELF file does.
 #[tactic(auto, unfolding(bn_model::specs::Opening::loaded))]
 pub fn load_raw(alloc: Global, file: &[u8], size: usize) -> Result<Option<Vec<u8>>, NoMemory>
-    ensures { IfOk result (λ ram. MatchOption ram
+    ensures gives { IfOk result (λ ram. MatchOption ram
         (loaded size file.now ≡ None) (λ bytes. loaded size file.now ≡ Some bytes.items)) }
+    ensures whole { IfOk result (λ ram. IfSome ram (λ bytes. length bytes.items ≡ size)) }
 {
     if !is_raw(file, size) {
         return Ok(None);
@@ -29,7 +30,9 @@ fn is_raw(file: &[u8], size: usize) -> bool
 
 fn fill(alloc: Global, file: &[u8], size: usize) -> Result<Vec<u8>, NoMemory>
     requires { length file.now ≤ size }
-    ensures { IfOk result (λ bytes. bytes.items ≡ file.now ++ replicate (size - length file.now) 0) }
+    ensures gives { IfOk result (λ bytes.
+        bytes.items ≡ file.now ++ replicate (size - length file.now) 0) }
+    ensures whole { IfOk result (λ bytes. length bytes.items ≡ size) }
 {
     let Ok(mut bytes) = Vec::with_capacity(alloc, size) else {
         return Err(NoMemory);

@@ -1,0 +1,91 @@
+//! The one call that the program makes.
+ghost use Rattle.std.specs.Prelude.{◌≡◌, ◌≢◌, ◌↔◌, codes};
+ghost use Rattle.bn_edge.specs.Counts.{CanCount, Rose};
+ghost use Rattle.bn_edge.specs.Written.{appended};
+ghost use Rattle.bn_machine.specs.Headline.{AnswersFault, CountsSinkFault, IsQuiet, IsStory, WritesFrontOfDue, WritesReport, bytes_of_words};
+
+use std::alloc::Global;
+
+use bn_edge::{Desk, DeskFault, Sink};
+use bn_types::Status;
+
+use crate::image_name::image_name;
+use crate::report::{say, serve_file};
+
+/// RAM has 1,024 pages; the desk is asked for one byte more, so that a longer file is known.
+const MOST_BYTES: usize = 4_194_305;
+
+/// Reads the words, runs the image that they name and writes its trace.
+///
+/// The words are `run` and the name of a raw image, which isn't empty and doesn't begin with `-`. A run has one
+/// hart, 1,024 pages of RAM and at most a million events. Where nothing fails, the status and the text are
+/// those of the report of the flat machine.
+pub fn bastion<D: Desk, O: Sink>(
+    alloc: Global,
+    words: &[Vec<u8>],
+    desk: &mut D,
+    out: &mut O,
+) -> Status
+    // Where no count of faults rose, the flat machine's report is written, or memory ran out.
+    ensures exact {
+        IsQuiet (O.faults out.old) (O.faults out.new) → IsQuiet (D.faults desk.old) (D.faults desk.new)
+        → result ≢ Status.Memory
+        → WritesReport (D.files desk.old) (bytes_of_words words.now) result
+            (O.written out.old) (O.written out.new) }
+
+    // When each fault comes.
+    ensures sink_fault { CanCount (O.faults out.old) →
+        ((result ≡ Status.SinkFault) ↔ Rose (O.faults out.old) (O.faults out.new)) }
+    ensures no_file { IsQuiet (O.faults out.old) (O.faults out.new) → CanCount (D.misses desk.old) →
+        ((result ≡ Status.NoFile) ↔ Rose (D.misses desk.old) (D.misses desk.new)) }
+    ensures desk_fault { IsQuiet (O.faults out.old) (O.faults out.new) → CanCount (D.faults desk.old) →
+        ((result ≡ Status.DeskFault) ↔ Rose (D.faults desk.old) (D.faults desk.new)) }
+
+    // What each of them leaves.
+    ensures front { result ≡ Status.SinkFault →
+        WritesFrontOfDue (D.files desk.old) (bytes_of_words words.now)
+            (D.misses desk.old) (D.misses desk.new) (D.faults desk.old) (D.faults desk.new)
+            (O.written out.old) (O.written out.new) }
+    ensures missing_line { result ≡ Status.NoFile →
+        O.written out.new ≡ appended (O.written out.old) (codes "missing image\n") }
+    ensures desk_line { result ≡ Status.DeskFault →
+        O.written out.new ≡ appended (O.written out.old) (codes "desk image\n") }
+    ensures untouched { result ≡ Status.Memory → O.written out.new ≡ O.written out.old }
+    ensures uncounted { result ≡ Status.Memory → CanCount (D.misses desk.old) →
+        D.misses desk.new ≡ D.misses desk.old }
+{
+    serve(alloc, words, desk, out)
+}
+
+fn serve<D: Desk, O: Sink>(
+    alloc: Global,
+    words: &[Vec<u8>],
+    desk: &mut D,
+    out: &mut O,
+) -> Status
+    ensures story { IsStory result (D.files desk.old) (bytes_of_words words.now)
+        (D.misses desk.old) (D.misses desk.new) (D.faults desk.old) (D.faults desk.new)
+        (O.written out.old) (O.written out.new) }
+    ensures counted { CanCount (O.faults out.old) →
+        CountsSinkFault result (O.faults out.old) (O.faults out.new) }
+{
+    let Some(name) = image_name(words) else {
+        return say(out, b"unbuilt\n", Status::Unbuilt);
+    };
+    match desk.read_front(alloc, name, MOST_BYTES) {
+        Ok(file) => serve_file(alloc, &file, out),
+        Err(fault) => say_fault(fault, out),
+    }
+}
+
+fn say_fault<O: Sink>(fault: DeskFault, out: &mut O) -> Status
+    ensures answers { AnswersFault fault result (O.written out.old) (O.written out.new) }
+    ensures counted { CanCount (O.faults out.old) →
+        CountsSinkFault result (O.faults out.old) (O.faults out.new) }
+{
+    match fault {
+        DeskFault::Missing => say(out, b"missing image\n", Status::NoFile),
+        DeskFault::Failed => say(out, b"desk image\n", Status::DeskFault),
+        DeskFault::Memory => Status::Memory,
+    }
+}

@@ -1,12 +1,10 @@
-use Rattle.std.proofs.Common.{◌≡◌, ◌+◌, ◌∙◌, ap, sym, subst, refl, arith, true, false, Option, List, ℕ}
+use Rattle.std.proofs.Common.{◌∙◌, ap, sym, subst, refl, arith}
 use Rattle.bn_edge.specs.Written.{appended, WritesFront}
-use Rattle.bn_types.specs.declared.ending.Ending.TheVariants.{Shutdown, Limit, Unbuilt}
 use Rattle.bn_types.specs.declared.event.Event.TheVariants.{Turn}
-use Rattle.bn_model.specs.Running.{course, turns}
 use Rattle.bn_model.specs.State.{State}
 use Rattle.bn_model.specs.Stepping.{is_built_event}
-use Rattle.bn_machine.specs.Telling.{FinishesRun, StopsRun}
-use Rattle.bn_machine.proofs.Runs.{IsUnderway, underway, underway_more, finished_off, finished_unbuilt, finished_limit, stopped, front_written, false_unless, on_err, turn_text}
+use Rattle.bn_machine.specs.Telling.{StopsRun}
+use Rattle.bn_machine.proofs.Runs.{underway, underway_more, finished_off, finished_unbuilt, finished_limit, stopped, front_written, false_unless, on_err}
 use Rattle.bn_machine.proofs.machine.Machine.run.Goals as goal
 
 pub loop-turn-init : goal.loop-turn-init

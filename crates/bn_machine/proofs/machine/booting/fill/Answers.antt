@@ -1,4 +1,4 @@
-use Rattle.std.proofs.Common.{◌≡◌, ℕ, ◌<◌, ◌*◌, ◌+◌, ◌-◌, List, [], length, take, drop, get_or, set, ap, sym, ◌∙◌, arith}
+use Rattle.std.proofs.Common.{ℕ, ◌<◌, ◌*◌, ◌+◌, ◌-◌, List, length, take, drop, set, ap, ◌∙◌, arith}
 use Rattle.bn_machine.proofs.Filling.{all_filled, page_filled, page_inside, page_whole, range_is_page}
 use Rattle.bn_machine.proofs.machine.booting.fill.Goals as goal
 

@@ -1,4 +1,4 @@
-use Rattle.std.proofs.Common.{◌≡◌, ℕ, get_or, set, ap, sym, ◌∙◌, arith}
+use Rattle.std.proofs.Common.{◌≡◌, get_or, set, ap, sym, ◌∙◌, arith}
 use Rattle.bn_frames.specs.Frames.{frame_at}
 use Rattle.bn_model.proofs.MixedLists.{set-mixed}
 use Rattle.bn_machine.proofs.Filling.{number_at-byte}
