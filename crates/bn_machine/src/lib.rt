@@ -8,11 +8,15 @@ pub use machine::Machine;
 pub use settings::Settings;
 pub use unbuilt::Unbuilt;
 
+mod calling;
+mod csr_deciding;
 mod hart;
+mod legality;
 mod line_buf;
 mod loaded;
 mod loading;
 mod machine;
+mod placing;
 mod settings;
 mod top;
 mod unbuilt;

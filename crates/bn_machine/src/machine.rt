@@ -6,6 +6,7 @@ use bn_frames::Frames;
 
 use crate::hart::Hart;
 
+mod accessing;
 mod booting;
 mod deciding;
 mod digesting;
