@@ -1,6 +1,11 @@
 pub mod ActingLemmas
+pub mod DecodingLemmas
 pub mod EncodingLemmas
 pub mod FieldLemmas
 pub mod FormatLemmas
 pub mod ListedLemmas
+pub mod MixedLists
+pub mod PageNumbers
+pub mod RunningLemmas
+pub mod SteppingLemmas
 pub mod WordLemmas

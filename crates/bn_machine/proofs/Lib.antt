@@ -1,0 +1,3 @@
+pub mod AlignedJumps
+pub mod WholePages
+pub mod Wrote
