@@ -4,12 +4,11 @@ ghost use Rattle.bn_model.specs.CsrDeciding as flat;
 ghost use Rattle.bn_model.specs.CsrFile.{csr_operated, csr_write};
 ghost use Rattle.bn_machine.specs.Within.{CanBeMade};
 
+use crate::hart::Hart;
+use crate::legality::illegal;
 use bn_model::Decision;
 use bn_types::{CsrOp, Mode, Reg};
 use rv_csr::{Csrs, Illegal};
-
-use crate::hart::Hart;
-use crate::legality::illegal;
 
 /// What CSRRW, CSRRS and CSRRC write over the old value.
 pub fn operate(op: CsrOp, old: u64, operand: u64) -> u64

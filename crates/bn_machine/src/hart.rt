@@ -2,10 +2,9 @@ ghost use Rattle.std.specs.Prelude.{◌≡◌, ◌%◌, ◌<◌};
 ghost use Rattle.bn_model.specs.CsrFile.{csr_write};
 ghost use Rattle.bn_model.specs.State as flat;
 
-use std::marker::Model;
-
 use bn_types::{Cause, Mode, Reg, Regs};
 use rv_csr::{Csrs, Illegal};
+use std::marker::Model;
 
 /// A timer that is never pending, since no clock comes so far.
 const NEVER: u64 = u64::MAX;
@@ -13,6 +12,7 @@ const NEVER: u64 = u64::MAX;
 /// The registers of a call's first two arguments and of its answer (RISC-V calling conventions, "Integer
 /// Register Convention").
 const A0: Reg = Reg(10);
+
 const A1: Reg = Reg(11);
 
 /// A hart (Unprivileged ISA, "Hardware Threads").
@@ -34,8 +34,14 @@ impl Model for Hart {
     ghost Value = { flat.Hart };
 
     ghost view = { λ h. record {
-        regs = h.regs; pc = h.pc; mode = h.mode; csrs = h.csrs;
-        timer = h.timer; retired = h.retired; started = h.started } };
+      regs = h.regs;
+      pc = h.pc;
+      mode = h.mode;
+      csrs = h.csrs;
+      timer = h.timer;
+      retired = h.retired;
+      started = h.started;
+    } };
 
     ghost invariant = { λ h. h.pc % 4 ≡ 0 };
 }

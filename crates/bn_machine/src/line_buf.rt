@@ -3,10 +3,9 @@ ghost use Rattle.hex.specs.Hex.{encode_lower};
 ghost use Rattle.bn_model.specs.Spelling.{spelling, finish_word, word_digits};
 
 use arrayvec::ArrayVec;
+use bn_types::{Digest, Finish, Line};
 use itoa::Buffer;
 use std::marker::Model;
-
-use bn_types::{Digest, Finish, Line};
 
 /// The lines of one event as text, of at most 512 bytes.
 #[derive(Debug, Drop)]

@@ -5,14 +5,13 @@ ghost use Rattle.bn_model.specs.Accessing as flat;
 ghost use Rattle.bn_model.specs.CsrDeciding.{hart_csr, old_if_read};
 ghost use Rattle.bn_machine.specs.Within.{CanBeMade, IsWithin};
 
+use crate::hart::Hart;
+use crate::machine::Machine;
+use crate::placing::{find_place, is_aligned};
 use bn_model::{Decision, Place};
 use bn_types::{Cause, Frame, Reg, Width};
 use rv_csr::Illegal;
 use rv_exec::extend;
-
-use crate::hart::Hart;
-use crate::machine::Machine;
-use crate::placing::{find_place, is_aligned};
 
 const LOAD_MISALIGNED: Cause = Cause(4);
 

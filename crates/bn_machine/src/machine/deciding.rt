@@ -9,18 +9,17 @@ ghost use Rattle.bn_model.specs.InsnRanges.{IsActInRange, IsInRange};
 ghost use Rattle.bn_model.specs.Interrupts.{external_pending, interrupt_of, timer_pending};
 ghost use Rattle.bn_machine.specs.Within.{CanBeMade, IsWithin, JumpsAligned};
 
-use bn_model::{Decision, Place};
-use bn_types::{Act, Cause, Insn, Regs, Width};
-use rv_csr::{Csrs, Wires};
-use rv_exec::act;
-use rv_insn::decode;
-
 use crate::calling::decide_ecall;
 use crate::csr_deciding::{decide_csr, operate};
 use crate::hart::Hart;
 use crate::legality::{decide_secure, illegal, supervisor_only};
 use crate::machine::Machine;
 use crate::placing::find_place;
+use bn_model::{Decision, Place};
+use bn_types::{Act, Cause, Insn, Regs, Width};
+use rv_csr::{Csrs, Wires};
+use rv_exec::act;
+use rv_insn::decode;
 
 const FETCH_FAULT: Cause = Cause(1);
 

@@ -4,12 +4,11 @@ ghost use Rattle.bn_model.specs.Spelling.{text_of};
 ghost use Rattle.bn_model.specs.Stepping as flat;
 ghost use Rattle.bn_machine.specs.Within.{CanBeMade, Fits, IsWithin};
 
+use crate::machine::Machine;
+use crate::{LineBuf, Unbuilt};
 use bn_model::{Decision, Place};
 use bn_types::{Cause, Event, Frame, Line, Reg, Steps, Width};
 use std::sync::ledger::Ledger;
-
-use crate::machine::Machine;
-use crate::{LineBuf, Unbuilt};
 
 impl Machine {
     /// Makes one event and leaves its lines.
