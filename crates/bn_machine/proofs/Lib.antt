@@ -1,3 +1,5 @@
 pub mod AlignedJumps
+pub mod Filling
+pub mod Runs
 pub mod WholePages
 pub mod Wrote
