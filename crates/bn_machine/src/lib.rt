@@ -18,6 +18,8 @@ mod loading;
 mod machine;
 mod placing;
 mod settings;
+#[cfg(test)]
+mod tests;
 mod top;
 mod unbuilt;
 mod writing;

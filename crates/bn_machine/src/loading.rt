@@ -2,8 +2,9 @@
 ghost use Rattle.std.specs.Prelude.{◌≡◌, ◌++◌, ◌-◌, ◌≤◌, IfOk, MatchOption, None, Some, length, replicate};
 ghost use Rattle.bn_model.specs.Opening.{is_raw_image, loaded};
 
-use bn_types::NoMemory;
 use std::alloc::Global;
+
+use bn_types::NoMemory;
 
 const ELF_MAGIC: [u8; 4] = [0x7f, 0x45, 0x4c, 0x46];
 
