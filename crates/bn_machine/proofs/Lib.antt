@@ -1,3 +1,4 @@
+pub mod AlignedJumps
 pub mod Filling
 pub mod Runs
 pub mod Serving

@@ -1,16 +1,30 @@
 ghost use Rattle.std.specs.Prelude.{◌≡◌, ◌%◌, ◌<◌};
-ghost use Rattle.bn_types.specs.Registers.{zero_registers};
+ghost use Rattle.bn_model.specs.CsrFile.{csr_write};
 ghost use Rattle.bn_model.specs.State as flat;
 
+use bn_types::{Cause, Mode, Reg, Regs};
+use rv_csr::{Csrs, Illegal};
 use std::marker::Model;
 
-use bn_types::{Reg, Regs};
+/// A timer that is never pending, since no clock comes so far.
+const NEVER: u64 = u64::MAX;
+
+/// The registers of a call's first two arguments and of its answer (RISC-V calling conventions, "Integer
+/// Register Convention").
+const A0: Reg = Reg(10);
+
+const A1: Reg = Reg(11);
 
 /// A hart (Unprivileged ISA, "Hardware Threads").
 #[derive(Debug, Drop)]
 pub struct Hart {
     regs: Regs,
     pc: u64,
+    mode: Mode,
+    csrs: Csrs,
+    timer: u64,
+    retired: u64,
+    started: bool,
 }
 
 impl Model for Hart {
@@ -19,20 +33,33 @@ impl Model for Hart {
 
     ghost Value = { flat.Hart };
 
-    ghost view = { λ h. record { regs = h.regs; pc = h.pc } };
+    ghost view = { λ h. record {
+      regs = h.regs;
+      pc = h.pc;
+      mode = h.mode;
+      csrs = h.csrs;
+      timer = h.timer;
+      retired = h.retired;
+      started = h.started;
+    } };
 
     ghost invariant = { λ h. h.pc % 4 ≡ 0 };
 }
 
 impl Hart {
-    /// A hart that is started at the entry, with all registers 0.
+    /// A hart that is started in mode S at the entry, with all registers and CSRs as at reset.
     pub fn started(entry: u64) -> Hart
         requires { entry % 4 ≡ 0 }
-        ensures { result ≡ record { regs = zero_registers; pc = entry } }
+        ensures { result ≡ flat.opening_hart entry }
     {
         Hart {
             regs: Regs::zero(),
             pc: entry,
+            mode: Mode::S,
+            csrs: Csrs::reset(),
+            timer: NEVER,
+            retired: 0,
+            started: true,
         }
     }
 
@@ -43,7 +70,19 @@ impl Hart {
         Hart {
             regs: Regs::zero(),
             pc: 0,
+            mode: Mode::U,
+            csrs: Csrs::reset(),
+            timer: NEVER,
+            retired: 0,
+            started: false,
         }
+    }
+
+    /// Whether it is started.
+    pub fn is_started(&self) -> bool
+        ensures { result ≡ self.now.started }
+    {
+        self.started
     }
 
     /// The address of its next instruction, a multiple of 4.
@@ -61,11 +100,40 @@ impl Hart {
         &self.regs
     }
 
+    /// Its mode.
+    pub fn mode(&self) -> Mode
+        ensures { result ≡ self.now.mode }
+    {
+        self.mode
+    }
+
+    /// Its control and status registers.
+    pub fn csrs(&self) -> &Csrs
+        ensures { result.now ≡ self.now.csrs }
+    {
+        &self.csrs
+    }
+
+    /// The clock from which on its timer is pending.
+    pub fn timer(&self) -> u64
+        ensures { result ≡ self.now.timer }
+    {
+        self.timer
+    }
+
+    /// How many instructions it has completed without a trap, modulo 2^64.
+    pub fn retired(&self) -> u64
+        ensures { result ≡ self.now.retired }
+    {
+        self.retired
+    }
+
     /// Goes on to the next instruction.
     pub fn go_on(&mut self)
         ensures { self.new ≡ flat.gone_on self.old }
     {
         self.pc = next_pc(self.pc);
+        self.retired = self.retired.wrapping_add(1);
     }
 
     /// Sets rd and goes on. x0 keeps 0.
@@ -74,7 +142,61 @@ impl Hart {
         ensures { self.new ≡ flat.gone_on_with self.old rd value }
     {
         self.pc = next_pc(self.pc);
+        self.retired = self.retired.wrapping_add(1);
         set_register(&mut self.regs, rd, value);
+    }
+
+    /// Sets rd to the link and goes to the target, a multiple of 4.
+    pub fn jump(&mut self, target: u64, rd: Reg, link: u64)
+        requires register { rd.0 < 32 }
+        requires aligned { target % 4 ≡ 0 }
+        ensures { self.new ≡ flat.jumped self.old target rd link }
+    {
+        self.pc = target;
+        self.retired = self.retired.wrapping_add(1);
+        set_register(&mut self.regs, rd, link);
+    }
+
+    /// Takes a trap, with this value for `stval`: it goes on in mode S at the address of `stvec`.
+    pub fn trap(&mut self, cause: Cause, value: u64)
+        ensures { self.new ≡ flat.trapped self.old cause value }
+    {
+        self.pc = self.csrs.enter_trap(cause, self.pc, value, self.mode);
+        self.mode = Mode::S;
+    }
+
+    /// Returns from a trap: it goes on at `sepc` in the mode of SPP.
+    pub fn return_from_trap(&mut self)
+        ensures { self.new ≡ flat.returned self.old }
+    {
+        let (pc, mode) = self.csrs.sret();
+        self.pc = pc;
+        self.mode = mode;
+        self.retired = self.retired.wrapping_add(1);
+    }
+
+    /// Writes the CSR of a number, where that is legal, sets rd to the old value and goes on.
+    pub fn change_csr(&mut self, number: u16, value: u64, rd: Reg, old: u64)
+        requires { rd.0 < 32 }
+        ensures { self.new ≡ flat.csr_changed self.old number value rd old }
+    {
+        write_csr(&mut self.csrs, number, value, self.mode);
+        self.go_on_with(rd, old);
+    }
+
+    /// Sets a0 to an error and a1 to 0 and goes on.
+    pub fn answer(&mut self, error: u64)
+        ensures { self.new ≡ flat.answered self.old error }
+    {
+        set_register(&mut self.regs, A0, error);
+        self.go_on_with(A1, 0);
+    }
+
+    /// Sets a0 to 0 and goes on.
+    pub fn accept(&mut self)
+        ensures { self.new ≡ flat.gone_on_with self.old flat.a0 0 }
+    {
+        self.go_on_with(A0, 0);
     }
 }
 
@@ -92,5 +214,15 @@ fn set_register(regs: &mut Regs, rd: Reg, value: u64)
 {
     if rd.0 != 0 {
         regs.x[rd.0 as usize] = value;
+    }
+}
+
+/// An illegal write leaves the CSRs.
+fn write_csr(csrs: &mut Csrs, number: u16, value: u64, mode: Mode)
+    ensures { csrs.new ≡ flat.csrs_after (csr_write csrs.old number value mode) csrs.old }
+{
+    match csrs.write(number, value, mode) {
+        Ok(()) => {}
+        Err(Illegal) => {}
     }
 }

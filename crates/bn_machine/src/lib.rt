@@ -9,14 +9,20 @@ pub use settings::Settings;
 pub use top::bastion;
 pub use unbuilt::Unbuilt;
 
+mod calling;
+mod csr_deciding;
 mod hart;
 mod image_name;
+mod legality;
 mod line_buf;
 mod loaded;
 mod loading;
 mod machine;
 mod report;
+mod placing;
 mod settings;
+#[cfg(test)]
+mod tests;
 mod top;
 mod unbuilt;
 mod writing;

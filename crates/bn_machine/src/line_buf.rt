@@ -1,12 +1,11 @@
 ghost use Rattle.std.specs.Prelude.{◌≡◌, ◌+◌, ◌*◌, ◌++◌, ◌∷◌, [], ◌≤◌, codes, decimal, length};
 ghost use Rattle.hex.specs.Hex.{encode_lower};
-ghost use Rattle.bn_model.specs.Spelling.{spelling, finish_word};
+ghost use Rattle.bn_model.specs.Spelling.{spelling, finish_word, word_digits};
 
 use arrayvec::ArrayVec;
+use bn_types::{Digest, Finish, Line};
 use itoa::Buffer;
 use std::marker::Model;
-
-use bn_types::{Digest, Finish, Line};
 
 /// The lines of one event as text, of at most 512 bytes.
 #[derive(Debug, Drop)]
@@ -54,6 +53,7 @@ impl LineBuf {
     {
         match *line {
             Line::Out { n, h, b } => push_out(&mut self.bytes, n, h, b),
+            Line::Trap { n, h, c, p } => push_trap(&mut self.bytes, n, h, c, p),
             Line::End { n, w, d } => push_end(&mut self.bytes, n, w, &d),
         }
     }
@@ -70,6 +70,22 @@ fn push_out(bytes: &mut ArrayVec<u8, 512>, n: u64, h: u8, b: u8)
     append_number(bytes, u64::from(h));
     append(bytes, b" ");
     append_byte(bytes, b);
+    append(bytes, b"\n");
+}
+
+fn push_trap(bytes: &mut ArrayVec<u8, 512>, n: u64, h: u8, c: u64, p: u64)
+    requires { length bytes.old.items + 128 ≤ 512 }
+    ensures { bytes.new.items ≡ bytes.old.items ++ (codes "trap " ++ decimal n ++ codes " "
+        ++ decimal h ++ codes " " ++ word_digits c ++ codes " " ++ word_digits p ++ codes "\n") }
+{
+    append(bytes, b"trap ");
+    append_number(bytes, n);
+    append(bytes, b" ");
+    append_number(bytes, u64::from(h));
+    append(bytes, b" ");
+    append_word(bytes, c);
+    append(bytes, b" ");
+    append_word(bytes, p);
     append(bytes, b"\n");
 }
 
@@ -113,6 +129,16 @@ fn append_byte(bytes: &mut ArrayVec<u8, 512>, b: u8)
 {
     let mut digits = [0; 2];
     encode(&[b], &mut digits);
+    append(bytes, &digits);
+}
+
+fn append_word(bytes: &mut ArrayVec<u8, 512>, word: u64)
+    requires { length bytes.old.items + 16 ≤ 512 }
+    ensures text { bytes.new.items ≡ bytes.old.items ++ word_digits word }
+    ensures short { length bytes.new.items ≡ length bytes.old.items + 16 }
+{
+    let mut digits = [0; 16];
+    encode(&word.to_be_bytes(), &mut digits);
     append(bytes, &digits);
 }
 

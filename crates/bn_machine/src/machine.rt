@@ -1,11 +1,10 @@
 ghost use Rattle.std.specs.Prelude.{◌≡◌};
 
+use crate::hart::Hart;
+use bn_frames::Frames;
 use std::marker::Model;
 
-use bn_frames::Frames;
-
-use crate::hart::Hart;
-
+mod accessing;
 mod booting;
 mod deciding;
 mod digesting;
@@ -28,8 +27,14 @@ impl Model for Machine {
 
     ghost Value = { Standing };
 
-    ghost view = { λ m. record { state = record {
-        pages = m.ram; harts = m.harts.items; clock = m.clock; off = m.off } } };
+    ghost view = { λ m. record {
+      state = record {
+        pages = m.ram;
+        harts = m.harts.items;
+        clock = m.clock;
+        off = m.off;
+      };
+    } };
 
     ghost invariant = { λ m. (length m.ram ≤ 4096) × AreWhole m.ram };
 }

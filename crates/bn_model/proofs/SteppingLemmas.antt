@@ -4,16 +4,23 @@ use Rattle.std.proofs.lemmas.List.{length-set}
 use Rattle.bn_types.specs.declared.event.Event.{Event}
 use Rattle.bn_types.specs.declared.event.Event.TheVariants.{Turn, Key, Poke, Peek}
 use Rattle.bn_model.specs.declared.decision.Decision.{Decision}
-use Rattle.bn_model.specs.declared.decision.Decision.TheVariants.{Unbuilt, Set, Store, Put, ShutDown}
+use Rattle.bn_model.specs.declared.decision.Decision.TheVariants.{Unbuilt, Rest, Trap, Next, Set, Jump, Store, WriteCsr, Return, Put, Answer, ShutDown}
 use Rattle.bn_model.specs.Deciding.{decision_of}
 use Rattle.bn_model.specs.State.{State}
 use Rattle.bn_model.specs.Stepping.{step, is_built_event, after_turn, is_built_turn}
 
 harts_after_turn : (s : State) (h : ℕ) (d : Decision) → length (after_turn s h d).harts ≡ length s.harts
 harts_after_turn s h Unbuilt = refl
+harts_after_turn s h Rest = refl
+harts_after_turn s h (Trap cause value) = length-set s.harts h _
+harts_after_turn s h Next = length-set s.harts h _
 harts_after_turn s h (Set rd value) = length-set s.harts h _
+harts_after_turn s h (Jump target rd link) = length-set s.harts h _
 harts_after_turn s h (Store place width value) = length-set s.harts h _
+harts_after_turn s h (WriteCsr number value rd old) = length-set s.harts h _
+harts_after_turn s h Return = length-set s.harts h _
 harts_after_turn s h (Put byte) = length-set s.harts h _
+harts_after_turn s h (Answer error) = length-set s.harts h _
 harts_after_turn s h ShutDown = length-set s.harts h _
 
 -- there are as many harts after an event as before
@@ -26,9 +33,16 @@ harts_after s (Peek page offset) = refl
 
 clock_after_turn : (s : State) (h : ℕ) (d : Decision) → is_built_turn d ≡ true → (after_turn s h d).clock ≡ s.clock + 1
 clock_after_turn s h Unbuilt e = cc
+clock_after_turn s h Rest e = refl
+clock_after_turn s h (Trap cause value) e = refl
+clock_after_turn s h Next e = refl
 clock_after_turn s h (Set rd value) e = refl
+clock_after_turn s h (Jump target rd link) e = refl
 clock_after_turn s h (Store place width value) e = refl
+clock_after_turn s h (WriteCsr number value rd old) e = refl
+clock_after_turn s h Return e = refl
 clock_after_turn s h (Put byte) e = refl
+clock_after_turn s h (Answer error) e = refl
 clock_after_turn s h ShutDown e = refl
 
 -- a built event is counted by the clock
@@ -41,9 +55,16 @@ clock_after s (Peek page offset) e = cc
 
 unbuilt_turn : (s : State) (h : ℕ) (d : Decision) → is_built_turn d ≡ false → after_turn s h d ≡ s
 unbuilt_turn s h Unbuilt e = refl
+unbuilt_turn s h Rest e = cc
+unbuilt_turn s h (Trap cause value) e = cc
+unbuilt_turn s h Next e = cc
 unbuilt_turn s h (Set rd value) e = cc
+unbuilt_turn s h (Jump target rd link) e = cc
 unbuilt_turn s h (Store place width value) e = cc
+unbuilt_turn s h (WriteCsr number value rd old) e = cc
+unbuilt_turn s h Return e = cc
 unbuilt_turn s h (Put byte) e = cc
+unbuilt_turn s h (Answer error) e = cc
 unbuilt_turn s h ShutDown e = cc
 
 -- an event that isn't built changes nothing

@@ -1,72 +1,69 @@
 -- What a turn comes to, before it is made: the step, the lines and what later definitions say of a turn
 -- are functions of this decision.
-use Rattle.std.specs.Prelude.{ℕ, ◌==◌, ◌%◌, ◌^◌, Bool, true, false, length, slice_index, Option, Some, None}
-use Rattle.bn_types.specs.Numbers.{bytes_of, number_at}
+use Rattle.std.specs.Prelude.{ℕ, ◌==◌, Bool, true, false, length, Option, Some, None}
 use Rattle.bn_types.specs.declared.act.Act.{Act}
 use Rattle.bn_types.specs.declared.act.Act.TheVariants as act
-use Rattle.bn_types.specs.declared.imm_op.ImmOp.TheVariants as imm_op
+use Rattle.bn_types.specs.declared.cause.Cause.{Cause}
 use Rattle.bn_types.specs.declared.insn.Insn.{Insn}
-use Rattle.bn_types.specs.declared.insn.Insn.TheVariants as insn
-use Rattle.bn_types.specs.declared.width.Width.{Width}
-use Rattle.bn_types.specs.declared.width.Width.TheVariants.{B1, B4}
 use Rattle.bn_model.specs.declared.decision.Decision.{Decision}
-use Rattle.bn_model.specs.declared.decision.Decision.TheVariants.{Unbuilt, Set, Store, Put, ShutDown}
-use Rattle.bn_model.specs.Acting.{act_of}
-use Rattle.bn_model.specs.Decoding.{insn_of}
+use Rattle.bn_model.specs.declared.decision.Decision.TheVariants.{Unbuilt, Rest, Trap, Next, Set, Jump, Return}
 use Rattle.bn_model.specs.declared.place.Place.{Place}
+use Rattle.bn_model.specs.Accessing.{load, store, word_at}
+use Rattle.bn_model.specs.Acting.{act_of}
+use Rattle.bn_model.specs.Causes.{breakpoint, fetch_fault, illegal}
+use Rattle.bn_model.specs.CsrDeciding.{decision_of_csr}
+use Rattle.bn_model.specs.CsrFile.{satp_mode}
+use Rattle.bn_model.specs.Decoding.{insn_of}
+use Rattle.bn_model.specs.Hypervisor.{decision_of_ecall}
+use Rattle.bn_model.specs.Interrupts.{interrupt_of}
+use Rattle.bn_model.specs.Legality.{is_legal, secure_if_legal, supervisor_only}
 use Rattle.bn_model.specs.Placing.{place_of}
-use Rattle.bn_model.specs.State.{Hart, State, hart_at, page_at}
+use Rattle.bn_model.specs.State.{Hart, State, hart_at}
 
--- the instructions that are built: AUIPC, ADDI, SB and ECALL
-abbrev pub is_built : Insn → Bool
-is_built (insn.Auipc rd imm) = true
-is_built (insn.Imm imm_op.Add rd left imm) = true
-is_built (insn.Store B1 base value offset) = true
-is_built insn.Ecall = true
-is_built _ = false
+-- what an instruction asks for, carried out or trapped
+abbrev pub decision_of_act : State → ℕ → Hart → Act → Decision
+decision_of_act s h hart (act.Set rd value) = Set rd value
+decision_of_act s h hart (act.Jump target rd link) = Jump target rd link
+decision_of_act s h hart act.Next = Next
+decision_of_act s h hart (act.LoadAt va width signed rd) = load s va width signed rd
+decision_of_act s h hart (act.StoreAt va width value) = store (length s.pages) va width value
+decision_of_act s h hart (act.Csr op number operand reads writes rd) =
+    decision_of_csr s h hart op number operand reads writes rd
+decision_of_act s h hart act.Ecall = decision_of_ecall hart.mode hart.regs
+decision_of_act s h hart act.Ebreak = Trap breakpoint 0
+decision_of_act s h hart act.Sret = supervisor_only hart.mode Return
+decision_of_act s h hart act.Wfi = supervisor_only hart.mode Next
+decision_of_act s h hart act.SfenceVma = supervisor_only hart.mode Next
+decision_of_act s h hart (act.Bastion secure) = secure_if_legal (is_legal secure hart.mode)
+decision_of_act s h hart (act.Trap cause value) = Trap cause value
 
--- the calls that are built (this project's table, after the legacy SBI): a7 is 1 for console_putchar, of
--- a0's low byte, and 8 for shutdown
-abbrev pub call_if : (is_put is_shutdown : Bool) → ℕ → Decision
-call_if true is_shutdown a0 = Put (a0 % 2 ^ 8)
-call_if false true a0 = ShutDown
-call_if false false a0 = Unbuilt
+-- a word that is no instruction is illegal
+abbrev pub decision_of_insn : State → ℕ → Hart → Option Insn → Decision
+decision_of_insn s h hart None = illegal
+decision_of_insn s h hart (Some i) = decision_of_act s h hart (act_of i hart.regs hart.pc)
 
-abbrev pub call_of : ℕ → ℕ → Decision
-call_of a7 a0 = call_if (a7 == 1) (a7 == 8) a0
+-- a fetch outside RAM fails
+abbrev pub decision_of_fetch : State → ℕ → Hart → Option Place → Decision
+decision_of_fetch s h hart None = Trap fetch_fault hart.pc
+decision_of_fetch s h hart (Some place) = decision_of_insn s h hart (insn_of (word_at s place))
 
--- a store that reaches RAM, and one whose address is a multiple of its width
-abbrev pub store_at : Option Place → Width → ℕ → Decision
-store_at None width value = Unbuilt
-store_at (Some place) width value = Store place width value
+-- an interrupt goes before the instruction
+abbrev pub decision_of_interrupt : State → ℕ → Hart → Option Cause → Decision
+decision_of_interrupt s h hart (Some cause) = Trap cause 0
+decision_of_interrupt s h hart None = decision_of_fetch s h hart (place_of (length s.pages) hart.pc)
 
-abbrev pub store_if_aligned : Bool → Option Place → Width → ℕ → Decision
-store_if_aligned false place width value = Unbuilt
-store_if_aligned true place width value = store_at place width value
+abbrev pub decision_if_started : Bool → State → ℕ → Hart → Decision
+decision_if_started false s h hart = Rest
+decision_if_started true s h hart = decision_of_interrupt s h hart (interrupt_of s h hart)
 
-abbrev pub decision_of_act : State → Hart → Act → Decision
-decision_of_act s hart (act.Set rd value) = Set rd value
-decision_of_act s hart (act.StoreAt va width value) =
-    store_if_aligned (va % bytes_of width == 0) (place_of (length s.pages) va) width value
-decision_of_act s hart act.Ecall = call_of (slice_index hart.regs.x 17) (slice_index hart.regs.x 10)
-decision_of_act s hart _ = Unbuilt
+-- translation of addresses isn't built yet
+abbrev pub decision_if_bare : Bool → State → ℕ → Hart → Decision
+decision_if_bare false s h hart = Unbuilt
+decision_if_bare true s h hart = decision_if_started hart.started s h hart
 
-abbrev pub decision_if_built : Bool → State → Hart → Insn → Decision
-decision_if_built false s hart i = Unbuilt
-decision_if_built true s hart i = decision_of_act s hart (act_of i hart.regs hart.pc)
-
-abbrev pub decision_of_insn : State → Hart → Option Insn → Decision
-decision_of_insn s hart None = Unbuilt
-decision_of_insn s hart (Some i) = decision_if_built (is_built i) s hart i
-
--- the 32-bit word that stands at a place
-abbrev pub word_at : State → Place → ℕ
-word_at s place = number_at B4 (page_at s place.page.0) place.offset
-
-abbrev pub decision_of_fetch : State → Hart → Option Place → Decision
-decision_of_fetch s hart None = Unbuilt
-decision_of_fetch s hart (Some place) = decision_of_insn s hart (insn_of (word_at s place))
+abbrev pub decision_of_hart : State → ℕ → Hart → Decision
+decision_of_hart s h hart = decision_if_bare (satp_mode hart.csrs.satp == 0) s h hart
 
 -- what a turn of a hart comes to
 unfoldable pub decision_of : State → ℕ → Decision
-decision_of s h = decision_of_fetch s (hart_at s h) (place_of (length s.pages) (hart_at s h).pc)
+decision_of s h = decision_of_hart s h (hart_at s h)

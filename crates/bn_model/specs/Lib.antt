@@ -1,10 +1,16 @@
+pub mod Accessing
 pub mod Acting
+pub mod Causes
+pub mod CsrDeciding
 pub mod CsrFile
 pub mod Deciding
 pub mod Decoding
 pub mod Encoding
 pub mod Fields
+pub mod Hypervisor
 pub mod InsnRanges
+pub mod Interrupts
+pub mod Legality
 pub mod Opening
 pub mod Placing
 pub mod Reporting

@@ -1,8 +1,7 @@
 -- The state in which a run begins.
 use Rattle.std.specs.Prelude.{ℕ, ◌-◌, ◌*◌, Bool, true, false, ◌&&◌, not, nat_le, nat_eq, List, [], ◌∷◌, ◌++◌, map, take, drop, length, replicate, Option, Some, None}
 use Rattle.std.specs.List.{starts_with, range_with_len}
-use Rattle.bn_types.specs.Registers.{zero_registers}
-use Rattle.bn_model.specs.State.{Hart, State, resting_hart}
+use Rattle.bn_model.specs.State.{Hart, State, opening_hart, resting_hart}
 
 -- page g of some bytes
 abbrev pub page_of : List ℕ → ℕ → List ℕ
@@ -12,9 +11,9 @@ page_of bytes g = take 4096 (drop (4096 * g) bytes)
 unfoldable pub pages_of : ℕ → List ℕ → List (List ℕ)
 pages_of count bytes = map (page_of bytes) (range_with_len 0 count)
 
--- hart 0 is started at the entry, with all registers 0; the other harts rest
+-- hart 0 is started at the entry in mode S, with all registers and CSRs as at reset; the other harts rest
 abbrev pub opening_harts : ℕ → ℕ → List Hart
-opening_harts harts entry = record { regs = zero_registers; pc = entry } ∷ replicate (harts - 1) resting_hart
+opening_harts harts entry = opening_hart entry ∷ replicate (harts - 1) resting_hart
 
 unfoldable pub opening : (pages harts : ℕ) → (bytes : List ℕ) → (entry : ℕ) → State
 opening pages harts bytes entry =

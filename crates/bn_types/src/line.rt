@@ -5,6 +5,8 @@ use crate::{Digest, Finish};
 pub enum Line {
     /// The guest wrote the byte `b` to its console.
     Out { n: u64, h: u8, b: u8 },
+    /// The hart took a trap of cause `c`; `p` is its `sepc`.
+    Trap { n: u64, h: u8, c: u64, p: u64 },
     /// The run ended after `n` events, with the digest of the pages that no module owns.
     End { n: u64, w: Finish, d: Digest },
 }

@@ -1,15 +1,14 @@
 //! Turns that are made.
-ghost use Rattle.std.specs.Prelude.{◌≡◌, ◌-◌, ◌^◌, ◌<◌, ◌↔◌, [], IsOk, IsTrue, false, length, Ok};
+ghost use Rattle.std.specs.Prelude.{◌≡◌, ◌-◌, ◌^◌, ◌<◌, ◌%◌, ◌↔◌, [], IsOk, IsTrue, false, length, Ok};
 ghost use Rattle.bn_model.specs.Spelling.{text_of};
 ghost use Rattle.bn_model.specs.Stepping as flat;
 ghost use Rattle.bn_machine.specs.Within.{CanBeMade, Fits, IsWithin};
 
-use bn_model::{Decision, Place};
-use bn_types::{Event, Frame, Line, Reg, Steps, Width};
-use std::sync::ledger::Ledger;
-
 use crate::machine::Machine;
 use crate::{LineBuf, Unbuilt};
+use bn_model::{Decision, Place};
+use bn_types::{Cause, Event, Frame, Line, Reg, Steps, Width};
+use std::sync::ledger::Ledger;
 
 impl Machine {
     /// Makes one event and leaves its lines.
@@ -49,8 +48,24 @@ impl Machine {
     {
         match decision {
             Decision::Unbuilt => Err(Unbuilt),
+            Decision::Rest => {
+                self.rest();
+                Ok(())
+            }
+            Decision::Trap { cause, value } => {
+                self.trap(hart, cause, value, lines);
+                Ok(())
+            }
+            Decision::Next => {
+                self.go_on(hart);
+                Ok(())
+            }
             Decision::Set { rd, value } => {
                 self.set(hart, rd, value);
+                Ok(())
+            }
+            Decision::Jump { target, rd, link } => {
+                self.jump(hart, target, rd, link);
                 Ok(())
             }
             Decision::Store {
@@ -61,8 +76,25 @@ impl Machine {
                 self.store(hart, place, width, value);
                 Ok(())
             }
+            Decision::WriteCsr {
+                number,
+                value,
+                rd,
+                old,
+            } => {
+                self.write_csr(hart, number, value, rd, old);
+                Ok(())
+            }
+            Decision::Return => {
+                self.return_from_trap(hart);
+                Ok(())
+            }
             Decision::Put { byte } => {
                 self.put(hart, byte, lines);
+                Ok(())
+            }
+            Decision::Answer { error } => {
+                self.answer(hart, error);
                 Ok(())
             }
             Decision::ShutDown => {
@@ -72,6 +104,39 @@ impl Machine {
         }
     }
 
+    fn rest(&mut self)
+        requires { self.old.state.clock < 2 ^ 64 - 1 }
+        ensures { self.new.state ≡ flat.after_turn self.old.state 0 Decision.Rest }
+    {
+        self.clock += 1;
+    }
+
+    fn trap(&mut self, hart: u8, cause: Cause, value: u64, lines: &mut LineBuf)
+        requires hart { hart < length self.old.state.harts }
+        requires clock { self.old.state.clock < 2 ^ 64 - 1 }
+        requires empty { lines.old ≡ [] }
+        ensures stepped { self.new.state ≡ flat.after_turn self.old.state hart (Decision.Trap cause value) }
+        ensures told { lines.new ≡ text_of (flat.lines_of_turn self.old.state hart (Decision.Trap cause value)) }
+    {
+        lines.push(&Line::Trap {
+            n: self.clock,
+            h: hart,
+            c: cause.0,
+            p: self.harts[hart as usize].pc(),
+        });
+        self.harts[hart as usize].trap(cause, value);
+        self.clock += 1;
+    }
+
+    fn go_on(&mut self, hart: u8)
+        requires hart { hart < length self.old.state.harts }
+        requires clock { self.old.state.clock < 2 ^ 64 - 1 }
+        ensures { self.new.state ≡ flat.after_turn self.old.state hart Decision.Next }
+    {
+        self.harts[hart as usize].go_on();
+        self.clock += 1;
+    }
+
     fn set(&mut self, hart: u8, rd: Reg, value: u64)
         requires hart { hart < length self.old.state.harts }
         requires clock { self.old.state.clock < 2 ^ 64 - 1 }
@@ -79,6 +144,17 @@ impl Machine {
         ensures { self.new.state ≡ flat.after_turn self.old.state hart (Decision.Set rd value) }
     {
         self.harts[hart as usize].go_on_with(rd, value);
+        self.clock += 1;
+    }
+
+    fn jump(&mut self, hart: u8, target: u64, rd: Reg, link: u64)
+        requires hart { hart < length self.old.state.harts }
+        requires clock { self.old.state.clock < 2 ^ 64 - 1 }
+        requires register { rd.0 < 32 }
+        requires aligned { target % 4 ≡ 0 }
+        ensures { self.new.state ≡ flat.after_turn self.old.state hart (Decision.Jump target rd link) }
+    {
+        self.harts[hart as usize].jump(target, rd, link);
         self.clock += 1;
     }
 
@@ -94,6 +170,25 @@ impl Machine {
         self.clock += 1;
     }
 
+    fn write_csr(&mut self, hart: u8, number: u16, value: u64, rd: Reg, old: u64)
+        requires hart { hart < length self.old.state.harts }
+        requires clock { self.old.state.clock < 2 ^ 64 - 1 }
+        requires register { rd.0 < 32 }
+        ensures { self.new.state ≡ flat.after_turn self.old.state hart (Decision.WriteCsr number value rd old) }
+    {
+        self.harts[hart as usize].change_csr(number, value, rd, old);
+        self.clock += 1;
+    }
+
+    fn return_from_trap(&mut self, hart: u8)
+        requires hart { hart < length self.old.state.harts }
+        requires clock { self.old.state.clock < 2 ^ 64 - 1 }
+        ensures { self.new.state ≡ flat.after_turn self.old.state hart Decision.Return }
+    {
+        self.harts[hart as usize].return_from_trap();
+        self.clock += 1;
+    }
+
     fn put(&mut self, hart: u8, byte: u8, lines: &mut LineBuf)
         requires hart { hart < length self.old.state.harts }
         requires clock { self.old.state.clock < 2 ^ 64 - 1 }
@@ -106,7 +201,16 @@ impl Machine {
             h: hart,
             b: byte,
         });
-        self.harts[hart as usize].go_on_with(A0, 0);
+        self.harts[hart as usize].accept();
+        self.clock += 1;
+    }
+
+    fn answer(&mut self, hart: u8, error: u64)
+        requires hart { hart < length self.old.state.harts }
+        requires clock { self.old.state.clock < 2 ^ 64 - 1 }
+        ensures { self.new.state ≡ flat.after_turn self.old.state hart (Decision.Answer error) }
+    {
+        self.harts[hart as usize].answer(error);
         self.clock += 1;
     }
 
@@ -120,7 +224,3 @@ impl Machine {
         self.clock += 1;
     }
 }
-
-/// The register of a call's first argument and answer (RISC-V calling conventions, "Integer Register
-/// Convention").
-const A0: Reg = Reg(10);
