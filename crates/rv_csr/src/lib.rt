@@ -8,4 +8,6 @@ pub use wires::Wires;
 mod bits;
 mod csrs;
 mod illegal;
+#[cfg(test)]
+mod tests;
 mod wires;
