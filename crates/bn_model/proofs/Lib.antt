@@ -1,3 +1,4 @@
+pub mod CsrFileLemmas
 pub mod EncodingLemmas
 pub mod FieldLemmas
 pub mod FormatLemmas

@@ -13,6 +13,5 @@ pub mod Spelling
 pub mod State
 pub mod Stepping
 pub mod CsrFile
-pub mod Ranges
 pub mod Trapping
 pub mod TwosComplement
