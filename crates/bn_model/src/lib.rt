@@ -1,2 +1,8 @@
 //! The flat machine: what the emulator is proved to do, as definitions that anyone can read, in specs/.
 #![tactic(auto)]
+
+pub use decision::Decision;
+pub use place::Place;
+
+mod decision;
+mod place;

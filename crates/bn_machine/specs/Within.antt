@@ -1,0 +1,35 @@
+-- What lies within a machine's size.
+use Rattle.std.specs.Prelude.{◌≡◌, ℕ, ◌%◌, ◌<◌, Bool, List, [], length, slice_index_or}
+use Rattle.bn_types.specs.Numbers.{bytes_of}
+use Rattle.bn_types.specs.declared.event.Event.{Event}
+use Rattle.bn_types.specs.declared.event.Event.TheVariants.{Turn, Key, Poke, Peek}
+use Rattle.bn_types.specs.declared.width.Width.{Width}
+use Rattle.bn_model.specs.declared.decision.Decision.{Decision}
+use Rattle.bn_model.specs.declared.decision.Decision.TheVariants.{Unbuilt, Set, Store, Put, ShutDown}
+use Rattle.bn_model.specs.declared.place.Place.{Place}
+use Rattle.bn_model.specs.State.{State}
+
+-- an event fits a state: its hart is one of the state's, its offset lies in a page
+abbrev pub Fits : State → Event → Type 0
+Fits s (Turn h) = h < length s.harts
+Fits s (Key byte) = Unit {0}
+Fits s (Poke page offset byte) = offset < 4096
+Fits s (Peek page offset) = offset < 4096
+
+-- an aligned access of this width at a place of the first pages
+pub record IsWithin (pages : ℕ) (place : Place) (width : Width) : Type 0 where
+  pub page : place.page.0 < pages
+  pub offset : place.offset < 4096
+  pub aligned : place.offset % bytes_of width ≡ 0
+
+-- what a turn comes to can be made on a machine of so many pages
+abbrev pub CanBeMade : ℕ → Decision → Type 0
+CanBeMade pages Unbuilt = Unit {0}
+CanBeMade pages (Set rd value) = rd.0 < 32
+CanBeMade pages (Store place width value) = IsWithin pages place width
+CanBeMade pages (Put byte) = Unit {0}
+CanBeMade pages ShutDown = Unit {0}
+
+-- each page has 4,096 bytes
+abbrev pub AreWhole : List (List ℕ) → Type 0
+AreWhole pages = (g : ℕ) → g < length pages → length (slice_index_or pages g []) ≡ 4096

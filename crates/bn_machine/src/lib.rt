@@ -1,0 +1,20 @@
+//! The machine: what a guest sees of it, event by event, and the call that runs an image on it.
+#![tactic(auto)]
+
+pub use bn_types::Ending;
+pub use line_buf::LineBuf;
+pub use loaded::Loaded;
+pub use machine::Machine;
+pub use settings::Settings;
+pub use top::bastion;
+pub use unbuilt::Unbuilt;
+
+mod hart;
+mod line_buf;
+mod loaded;
+mod loading;
+mod machine;
+mod settings;
+mod top;
+mod unbuilt;
+mod writing;
