@@ -1,5 +1,5 @@
-use crate::{Csrs, Illegal, Wires};
-use bn_types::{Cause, Mode};
+use crate::{CsrAsked, Csrs, Illegal, Wires};
+use bn_types::{Cause, CsrOp, Mode};
 use std::process::Abort;
 
 const SSTATUS: u16 = 0x100;
@@ -136,4 +136,63 @@ fn interrupts_by_mode_and_order(rt: HostRuntime) {
         Some(Cause(0x8000_0000_0000_0005))
     );
     assert_eq!(rt; csrs.pending(Mode::S, &QUIET), None);
+}
+
+#[test]
+fn csr_instructions_read_and_write(rt: HostRuntime) {
+    let mut csrs = Csrs::reset();
+    let set = CsrAsked {
+        op: CsrOp::Set,
+        number: SIE,
+        operand: 0x222,
+        reads: true,
+        writes: true,
+    };
+    assert_eq!(rt; csrs.operate(&set, Mode::S, &QUIET, CLOCK, RETIRED), Ok(0));
+    let clear = CsrAsked {
+        op: CsrOp::Clear,
+        number: SIE,
+        operand: 0x20,
+        reads: true,
+        writes: true,
+    };
+    assert_eq!(rt;
+        csrs.operate(&clear, Mode::S, &QUIET, CLOCK, RETIRED),
+        Ok(0x222)
+    );
+    reads(&rt, &csrs, SIE, 0x202);
+    let write = CsrAsked {
+        op: CsrOp::Write,
+        number: SIE,
+        operand: 0,
+        reads: false,
+        writes: true,
+    };
+    assert_eq!(rt;
+        csrs.operate(&write, Mode::S, &QUIET, CLOCK, RETIRED),
+        Ok(0)
+    );
+    let time = CsrAsked {
+        op: CsrOp::Set,
+        number: 0xc01,
+        operand: 0,
+        reads: true,
+        writes: false,
+    };
+    assert_eq!(rt;
+        csrs.operate(&time, Mode::S, &QUIET, CLOCK, RETIRED),
+        Ok(CLOCK)
+    );
+    let counted = CsrAsked {
+        op: CsrOp::Set,
+        number: 0xc01,
+        operand: 0,
+        reads: true,
+        writes: true,
+    };
+    assert_eq!(rt;
+        csrs.operate(&counted, Mode::S, &QUIET, CLOCK, RETIRED),
+        Err(Illegal)
+    );
+    reads(&rt, &csrs, SIE, 0);
 }
