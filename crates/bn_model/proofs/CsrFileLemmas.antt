@@ -47,21 +47,21 @@ pub HasCsrForms-trap :
 HasCsrForms-trap c cause pc value mode h p = record {
   sepc_aligned = p;
   base_aligned = h.base_aligned;
-  known_mode = h.known_mode
+  known_mode = h.known_mode;
 }
 
 pub HasCsrForms-sret : (c : CsrFile) → HasCsrForms c → HasCsrForms (after_sret c)
 HasCsrForms-sret c h = record {
   sepc_aligned = h.sepc_aligned;
   base_aligned = h.base_aligned;
-  known_mode = h.known_mode
+  known_mode = h.known_mode;
 }
 
 pub HasCsrForms-software : (c : CsrFile) → HasCsrForms c → HasCsrForms (after_software c)
 HasCsrForms-software c h = record {
   sepc_aligned = h.sepc_aligned;
   base_aligned = h.base_aligned;
-  known_mode = h.known_mode
+  known_mode = h.known_mode;
 }
 
 satp_written-forms :
@@ -72,7 +72,7 @@ satp_written-forms :
 satp_written-forms true value c e h = record {
   sepc_aligned = h.sepc_aligned;
   base_aligned = h.base_aligned;
-  known_mode = e
+  known_mode = e;
 }
 satp_written-forms false value c e h = h
 
@@ -81,42 +81,42 @@ written-forms :
 written-forms Sstatus value c h = record {
   sepc_aligned = h.sepc_aligned;
   base_aligned = h.base_aligned;
-  known_mode = h.known_mode
+  known_mode = h.known_mode;
 }
 written-forms Sie value c h = record {
   sepc_aligned = h.sepc_aligned;
   base_aligned = h.base_aligned;
-  known_mode = h.known_mode
+  known_mode = h.known_mode;
 }
 written-forms Stvec value c h = record {
   sepc_aligned = h.sepc_aligned;
   base_aligned = aligned-mod value;
-  known_mode = h.known_mode
+  known_mode = h.known_mode;
 }
 written-forms Sscratch value c h = record {
   sepc_aligned = h.sepc_aligned;
   base_aligned = h.base_aligned;
-  known_mode = h.known_mode
+  known_mode = h.known_mode;
 }
 written-forms Sepc value c h = record {
   sepc_aligned = aligned-mod value;
   base_aligned = h.base_aligned;
-  known_mode = h.known_mode
+  known_mode = h.known_mode;
 }
 written-forms Scause value c h = record {
   sepc_aligned = h.sepc_aligned;
   base_aligned = h.base_aligned;
-  known_mode = h.known_mode
+  known_mode = h.known_mode;
 }
 written-forms Stval value c h = record {
   sepc_aligned = h.sepc_aligned;
   base_aligned = h.base_aligned;
-  known_mode = h.known_mode
+  known_mode = h.known_mode;
 }
 written-forms Sip value c h = record {
   sepc_aligned = h.sepc_aligned;
   base_aligned = h.base_aligned;
-  known_mode = h.known_mode
+  known_mode = h.known_mode;
 }
 written-forms Satp value c h = satp_written-forms (is_satp_mode (satp_mode value)) value c refl h
 written-forms Cycle value c h = tt

@@ -63,7 +63,7 @@ reset_csrs = record {
   scause = 0;
   stval = 0;
   ssip = false;
-  satp = 0
+  satp = 0;
 }
 
 -- ---- the numbers of the CSRs
@@ -176,20 +176,20 @@ satp_written_if false value c = c
 
 abbrev pub csr_written : Csr → ℕ → CsrFile → Option CsrFile
 csr_written Sstatus value c = Some (
-  record c {
-    sie = is_set value 1;
-    spie = is_set value 5;
-    spp = spp_of (is_set value 8);
-    sum = is_set value 18;
-    mxr = is_set value 19
-  }
-)
+    record c {
+      sie = is_set value 1;
+      spie = is_set value 5;
+      spp = spp_of (is_set value 8);
+      sum = is_set value 18;
+      mxr = is_set value 19;
+    }
+    )
 csr_written Sie value c = Some (
-  record c { ssie = is_set value 1; stie = is_set value 5; seie = is_set value 9 }
-)
+    record c { ssie = is_set value 1; stie = is_set value 5; seie = is_set value 9 }
+    )
 csr_written Stvec value c = Some (
-  record c { stvec_base = aligned value; stvec_vectored = is_set value 0 }
-)
+    record c { stvec_base = aligned value; stvec_vectored = is_set value 0 }
+    )
 csr_written Sscratch value c = Some (record c { sscratch = value })
 csr_written Sepc value c = Some (record c { sepc = aligned value })
 csr_written Scause value c = Some (record c { scause = value })

@@ -32,7 +32,7 @@ after_trap c cause pc value mode = record c {
   spp = mode;
   sepc = pc;
   scause = cause.0;
-  stval = value
+  stval = value;
 }
 
 -- the CSRs after SRET, which goes on at `sepc` in the mode of SPP
