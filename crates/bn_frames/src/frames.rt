@@ -1,4 +1,4 @@
-ghost use Rattle.std.specs.Prelude.{◌≡◌, ◌%◌, ◌<◌, length, replicate, slice_set, IfOk};
+ghost use Rattle.std.specs.Prelude.{◌≡◌, ◌*◌, ◌%◌, ◌^◌, ◌<◌, length, replicate, slice_set, IfOk};
 ghost use Rattle.bn_types.specs.Numbers.{bytes_of, number_at, with_number, zero_page};
 ghost use Rattle.bn_frames.specs.Frames.{frame_at};
 
@@ -50,7 +50,8 @@ impl Frames {
         requires frame { frame.0 < length self.now }
         requires aligned { offset % bytes_of width ≡ 0 }
         requires inside { offset < 4096 }
-        ensures { result ≡ number_at width (frame_at self.now frame.0) offset }
+        ensures number { result ≡ number_at width (frame_at self.now frame.0) offset }
+        ensures fits { result < 2 ^ (8 * bytes_of width) }
     {
         number_in(&self.pages[frame.0 as usize], offset as usize, width)
     }
@@ -101,7 +102,8 @@ fn number_in(page: &[u8], at: usize, width: Width) -> u64
     requires size { length page.now ≡ 4096 }
     requires aligned { at % bytes_of width ≡ 0 }
     requires inside { at < 4096 }
-    ensures { result ≡ number_at width page.now at }
+    ensures number { result ≡ number_at width page.now at }
+    ensures fits { result < 2 ^ (8 * bytes_of width) }
 {
     match width {
         Width::B1 => u64::from(page[at]),

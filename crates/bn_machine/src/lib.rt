@@ -6,7 +6,6 @@ pub use line_buf::LineBuf;
 pub use loaded::Loaded;
 pub use machine::Machine;
 pub use settings::Settings;
-pub use top::bastion;
 pub use unbuilt::Unbuilt;
 
 mod hart;

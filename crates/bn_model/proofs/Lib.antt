@@ -1,6 +1,12 @@
+pub mod ActingLemmas
 pub mod CsrFileLemmas
+pub mod DecodingLemmas
 pub mod EncodingLemmas
 pub mod FieldLemmas
 pub mod FormatLemmas
 pub mod ListedLemmas
+pub mod MixedLists
+pub mod PageNumbers
+pub mod RunningLemmas
+pub mod SteppingLemmas
 pub mod WordLemmas

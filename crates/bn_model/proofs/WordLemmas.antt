@@ -6,7 +6,6 @@ use Rattle.bn_types.specs.declared.imm_op.ImmOp.TheVariants as imm_op
 use Rattle.bn_types.specs.declared.insn.Insn.{Insn}
 use Rattle.bn_types.specs.declared.insn.Insn.TheVariants.{Lui, Auipc, Jal, Jalr, Branch, Load, Store, Imm, Shift, Reg2, AddiW, ShiftW, Reg2W, Fence, Csr, Ecall, Ebreak, Sret, Wfi, SfenceVma, Bastion}
 use Rattle.bn_types.specs.declared.op.Op.TheVariants as op
-use Rattle.bn_types.specs.declared.reg.Reg.{Reg}
 use Rattle.bn_types.specs.declared.secure.Secure.TheVariants.{Launch, Call, Ret, Evict, Ident, Caller, Offerer, Sget, Sset}
 use Rattle.bn_types.specs.declared.shift_op.ShiftOp.TheVariants.{Left, Right, RightSigned}
 use Rattle.bn_types.specs.declared.test.Test.TheVariants.{Eq, Ne, Lt, Ge, Ltu, Geu}

@@ -1,5 +1,7 @@
 -- The ranges of an instruction's fields.
 use Rattle.std.specs.Prelude.{◌≡◌, ℕ, ◌-◌, ◌%◌, ◌^◌, ◌<◌, Bool, true, ℤ, pos, neg_ℤ, ◌≤ℤ◌, ◌<ℤ◌, unsigned_abs}
+use Rattle.bn_types.specs.declared.act.Act.{Act}
+use Rattle.bn_types.specs.declared.act.Act.TheVariants as act
 use Rattle.bn_types.specs.declared.csr_from.CsrFrom.{CsrFrom}
 use Rattle.bn_types.specs.declared.csr_from.CsrFrom.TheVariants.{Register, Number}
 use Rattle.bn_types.specs.declared.insn.Insn.{Insn}
@@ -100,3 +102,19 @@ IsInRange Sret = Unit {0}
 IsInRange Wfi = Unit {0}
 IsInRange (SfenceVma rs1 rs2) = IsRegister rs1 × IsRegister rs2
 IsInRange (Bastion secure) = IsSecureInRange secure
+
+-- the registers and numbers of what an instruction asks for
+abbrev pub IsActInRange : Act → Type 0
+IsActInRange (act.Set rd value) = IsRegister rd
+IsActInRange (act.Jump target rd link) = IsRegister rd
+IsActInRange act.Next = Unit {0}
+IsActInRange (act.LoadAt va width signed rd) = IsRegister rd
+IsActInRange (act.StoreAt va width value) = Unit {0}
+IsActInRange (act.Csr op number operand reads writes rd) = (number < 4096) × IsRegister rd
+IsActInRange act.Ecall = Unit {0}
+IsActInRange act.Ebreak = Unit {0}
+IsActInRange act.Sret = Unit {0}
+IsActInRange act.Wfi = Unit {0}
+IsActInRange act.SfenceVma = Unit {0}
+IsActInRange (act.Bastion secure) = IsSecureInRange secure
+IsActInRange (act.Trap cause value) = Unit {0}

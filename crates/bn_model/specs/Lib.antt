@@ -1,4 +1,5 @@
 pub mod Acting
+pub mod CsrFile
 pub mod Deciding
 pub mod Decoding
 pub mod Encoding
@@ -6,12 +7,10 @@ pub mod Fields
 pub mod InsnRanges
 pub mod Opening
 pub mod Placing
-pub mod Ranges
 pub mod Reporting
 pub mod Running
 pub mod Spelling
 pub mod State
 pub mod Stepping
-pub mod CsrFile
 pub mod Trapping
 pub mod TwosComplement

@@ -1,6 +1,6 @@
 ghost use Rattle.std.specs.Prelude.{◌≡◌, ◌<◌};
 ghost use Rattle.bn_model.specs.Acting.{act_of, operand, reads, register, writes};
-ghost use Rattle.bn_model.specs.Ranges.{IsCsrFrom, IsInRange, IsRegister};
+ghost use Rattle.bn_model.specs.InsnRanges.{IsOperand, IsInRange, IsRegister};
 
 use crate::arithmetic::{
     add_immediate, shift, shift_word, value_of_immediate, value_of_registers, value_of_words,
@@ -141,7 +141,7 @@ fn read(regs: &Regs, reg: Reg) -> u64
 }
 
 fn operand(from: CsrFrom, regs: &Regs) -> u64
-    requires { IsCsrFrom from }
+    requires { IsOperand from }
     ensures { result ≡ operand from regs.now }
 {
     match from {

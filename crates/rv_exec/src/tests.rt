@@ -1,4 +1,4 @@
-ghost use Rattle.bn_model.specs.Ranges.{IsInRange};
+ghost use Rattle.bn_model.specs.InsnRanges.{IsInRange};
 
 use crate::tests::tables::{BRANCHES, IMMEDIATES, LOADS, REGISTERS, SHIFTS, WORD_SHIFTS, WORDS};
 use crate::{act, extend};

@@ -1,0 +1,2 @@
+pub mod WholePages
+pub mod Wrote
