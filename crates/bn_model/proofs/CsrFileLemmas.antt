@@ -1,6 +1,6 @@
 -- What changes a hart's CSRs keeps their forms: `sepc` and the base of `stvec` are multiples of 4, and the
 -- MODE of `satp` is one that is built. A trap goes to a multiple of 4.
-use Rattle.std.proofs.Common.{◌≡◌, ℕ, ◌%◌, ◌/◌, ◌^◌, ◌+◌, ◌*◌, Bool, true, false, Option, Some, None, arith, refl}
+use Rattle.std.proofs.Common.{◌≡◌, ℕ, ◌%◌, Bool, true, false, Option, Some, None, arith, refl}
 use Rattle.std.specs.Prelude.{IfSome}
 use Rattle.bn_types.specs.declared.cause.Cause.{Cause}
 use Rattle.bn_types.specs.declared.mode.Mode.{Mode}
