@@ -1,2 +1,4 @@
+pub mod Filling
+pub mod Runs
 pub mod WholePages
 pub mod Wrote

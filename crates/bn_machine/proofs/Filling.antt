@@ -1,0 +1,131 @@
+-- Frames that are filled with bytes, one after another.
+use Rattle.std.proofs.Common.{◌≡◌, ℕ, zero, suc, ◌+◌, ◌-◌, ◌*◌, ◌%◌, ◌^◌, ◌<◌, ◌≤◌, List, [], ◌∷◌, ◌++◌, take, drop, length, get_or, set, map, replicate, refl, sym, ap, ◌∙◌, arith, add-one, add-zero, subst}
+use Rattle.std.specs.List.{range_with_len, concat}
+use Rattle.std.proofs.lemmas.List.{append_assoc, length-append, length-take-le, length-drop, length-set, length-replicate, set-set, get_or-set_same, get_or-drop, get_or-take, get_or-replicate, get_or-append_right, replicate-append-replicate, append-nil}
+use Rattle.std.proofs.lemmas.List.FromFn.{length-map-range_with_len, get_or-map-range_with_len}
+use Rattle.std.proofs.lemmas.List.Folds.{concat-append}
+use Rattle.std.proofs.Math.Seq.{take-suc}
+use Rattle.bn_types.specs.Numbers.{bytes_of, number_at, with_number, zero_page}
+use Rattle.bn_types.specs.declared.width.Width.TheVariants.{B1}
+use Rattle.bn_model.proofs.MixedLists.{mixed, mixed_all, set-mixed}
+use Rattle.bn_model.proofs.PageNumbers.{length-zero_page}
+use Rattle.bn_model.specs.Opening.{opening_harts, page_of, pages_of}
+use Rattle.bn_model.specs.State.{Hart, resting_hart}
+use Rattle.bn_machine.specs.Within.{AreWhole}
+
+set_split_suc : {A : Type 0} (l : List A) (i : ℕ) (a : A) → i < length l → take i l ++ a ∷ drop (suc i) l ≡ set l i a
+set_split_suc (x ∷ l) zero a h = refl
+set_split_suc (x ∷ l) (suc i) a h = ap (λ r. x ∷ r) (set_split_suc l i a (omega arith))
+set_split_suc [] i a h = absurd (omega arith)
+
+-- writing a byte sets it
+pub with_byte : (page : List ℕ) (offset byte : ℕ) → offset < length page → byte < 256 → with_number B1 page offset byte ≡ set page offset byte
+unfolding with_number
+with_byte page offset byte inside small =
+    let e : byte % 2 ^ (8 * 1) % 256 ≡ byte = omega arith in
+    append_assoc (take offset page) (byte % 2 ^ (8 * 1) % 256 ∷ []) (drop (offset + 1) page)
+    ∙ rw (e, add-one) (set_split_suc page offset byte inside)
+
+-- reading a byte
+pub number_at-byte : (page : List ℕ) (offset : ℕ) → number_at B1 page offset ≡ get_or page offset 0
+unfolding number_at
+number_at-byte page offset =
+    let first : get_or (drop offset page) 0 0 ≡ get_or page offset 0 = get_or-drop offset page 0 0 ∙ ap (λ n. get_or page n 0) (omega arith) in
+    omega arith
+
+-- one more byte of a page
+pub byte_filled : (pages : List (List ℕ)) (f offset byte : ℕ) (bytes old : List ℕ) → f < length pages → offset < length bytes
+    → length bytes ≡ length old → byte < 256 → byte ≡ get_or bytes offset 0
+    → set (set pages f (mixed offset bytes old)) f (with_number B1 (get_or (set pages f (mixed offset bytes old)) f []) offset byte)
+      ≡ set pages f (mixed (offset + 1) bytes old)
+byte_filled pages f offset byte bytes old inside below same small e =
+    let now = mixed offset bytes old in
+    let size : offset < length now = length_mixed in
+    set-set pages f now (with_number B1 (get_or (set pages f now) f []) offset byte)
+    ∙ ap (λ page. set pages f (with_number B1 page offset byte)) (get_or-set_same pages f now [] inside)
+    ∙ ap (set pages f) (with_byte now offset byte size small ∙ ap (set now offset) e ∙ set-mixed offset bytes old 0 below same)
+  where
+  length_mixed : offset < length (mixed offset bytes old)
+  length_mixed =
+      let front = length-take-le offset bytes (omega arith) in
+      let back = length-drop offset old in
+      omega (arith, length-append (take offset bytes) (drop offset old))
+
+-- a page that isn't filled yet is as it was
+pub get_or-mixed : {A : Type 0} (i : ℕ) (new old : List A) (d : A) → i ≤ length new → get_or (mixed i new old) i d ≡ get_or old i d
+get_or-mixed i new old d h =
+    get_or-append_right (take i new) (drop i old) i i d (length-take-le i new h) (omega arith)
+    ∙ get_or-drop i old (i - i) d
+    ∙ ap (λ n. get_or old n d) (omega arith)
+
+pub length-mixed : {A : Type 0} (i : ℕ) (new old : List A) → i ≤ length new → length new ≡ length old → length (mixed i new old) ≡ length old
+length-mixed i new old h e =
+    let front = length-take-le i new h in
+    let back = length-drop i old in
+    omega (arith, length-append (take i new) (drop i old))
+
+pub length-pages_of : (count : ℕ) (bytes : List ℕ) → length (pages_of count bytes) ≡ count
+unfolding pages_of
+length-pages_of count bytes = length-map-range_with_len (page_of bytes) 0 count
+
+pub get_or-pages_of : (count : ℕ) (bytes : List ℕ) (g : ℕ) → g < count → get_or (pages_of count bytes) g [] ≡ page_of bytes g
+unfolding pages_of
+get_or-pages_of count bytes g h = get_or-map-range_with_len (page_of bytes) 0 count g g [] h (omega arith)
+
+-- one more page
+pub page_filled : (frames : List (List ℕ)) (g : ℕ) (bytes page : List ℕ) → g < length frames → page ≡ page_of bytes g
+    → set (mixed g (pages_of (length frames) bytes) frames) g page ≡ mixed (g + 1) (pages_of (length frames) bytes) frames
+page_filled frames g bytes page h e =
+    let size = length-pages_of (length frames) bytes in
+    ap (set (mixed g (pages_of (length frames) bytes) frames) g) (e ∙ sym (get_or-pages_of (length frames) bytes g h))
+    ∙ set-mixed g (pages_of (length frames) bytes) frames [] (omega arith) size
+
+pub whole_pages : (count : ℕ) (bytes : List ℕ) → length bytes ≡ 4096 * count → AreWhole (pages_of count bytes)
+whole_pages count bytes size g inside =
+    let below : g < count = subst (λ n. g < n) (length-pages_of count bytes) inside in
+    ap length (get_or-pages_of count bytes g below)
+    ∙ length-take-le 4096 (drop (4096 * g) bytes) (let rest = length-drop (4096 * g) bytes in omega arith)
+
+pub whole_zeros : (count : ℕ) → AreWhole (replicate count zero_page)
+whole_zeros count g inside =
+    let below : g < count = subst (λ n. g < n) (length-replicate count zero_page) inside in
+    ap length (get_or-replicate count g zero_page [] below) ∙ length-zero_page
+
+-- one more hart that rests
+pub opening_harts_more : (count entry : ℕ) → 0 < count → opening_harts count entry ++ resting_hart ∷ [] ≡ opening_harts (count + 1) entry
+opening_harts_more count entry h =
+    let n : count - 1 + 1 ≡ count + 1 - 1 = omega arith in
+    ap (λ l. get_or (opening_harts count entry) 0 resting_hart ∷ l) (replicate-append-replicate (count - 1) 1 resting_hart ∙ ap (λ k. replicate k resting_hart) n)
+
+-- one more page
+pub concat-take : (pages : List (List ℕ)) (g : ℕ) (page : List ℕ) → g < length pages → page ≡ get_or pages g []
+    → concat (take g pages) ++ page ≡ concat (take (g + 1) pages)
+concat-take pages g page h e =
+    rw add-one (sym (ap concat (take-suc pages g [] h) ∙ concat-append (take g pages) (get_or pages g [] ∷ [])
+    ∙ ap (λ l. concat (take g pages) ++ l) (append-nil (get_or pages g [])) ∙ ap (λ l. concat (take g pages) ++ l) (sym e)))
+
+-- the page at which the filling is
+pub page_inside : (frames : List (List ℕ)) (g : ℕ) (bytes : List ℕ) → g < length frames → g < length (mixed g (pages_of (length frames) bytes) frames)
+page_inside frames g bytes h =
+    let size = length-pages_of (length frames) bytes in
+    let all = length-mixed g (pages_of (length frames) bytes) frames (omega arith) size in
+    omega arith
+
+pub page_whole : (frames : List (List ℕ)) (g : ℕ) (bytes : List ℕ) → AreWhole frames → g < length frames
+    → length (get_or (mixed g (pages_of (length frames) bytes) frames) g []) ≡ 4096
+page_whole frames g bytes whole h =
+    let size = length-pages_of (length frames) bytes in
+    ap length (get_or-mixed g (pages_of (length frames) bytes) frames [] (omega arith)) ∙ whole g h
+
+-- all pages are filled
+pub all_filled : (frames : List (List ℕ)) (g : ℕ) (bytes : List ℕ) → g ≡ length frames
+    → mixed g (pages_of (length frames) bytes) frames ≡ pages_of (length frames) bytes
+all_filled frames g bytes e =
+    mixed_all g (pages_of (length frames) bytes) frames (length-pages_of (length frames) bytes ∙ sym e) (sym e)
+
+-- page g as a range of the bytes
+pub range_is_page : (bytes : List ℕ) (g : ℕ) → take (g * 4096 + 4096 - g * 4096) (drop (g * 4096) bytes) ≡ page_of bytes g
+range_is_page bytes g =
+    let size : g * 4096 + 4096 - g * 4096 ≡ 4096 = omega arith in
+    let start : g * 4096 ≡ 4096 * g = omega arith in
+    ap (λ n. take n (drop (g * 4096) bytes)) size ∙ ap (λ n. take 4096 (drop n bytes)) start
