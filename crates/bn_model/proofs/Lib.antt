@@ -1,4 +1,5 @@
 pub mod ActingLemmas
+pub mod CsrFileLemmas
 pub mod DecodingLemmas
 pub mod EncodingLemmas
 pub mod FieldLemmas

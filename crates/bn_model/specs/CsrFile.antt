@@ -216,3 +216,43 @@ abbrev pub csr_operated : CsrOp → ℕ → ℕ → ℕ
 csr_operated Write old operand = operand
 csr_operated Set old operand = bit_or old operand
 csr_operated Clear old operand = bit_and old (bit_not w64 operand)
+
+-- what a CSR instruction leaves: the value for rd, and the CSRs
+pub record CsrDone : Type 0 where
+  pub value : ℕ
+  pub csrs : CsrFile
+
+-- the old value, where it is read; an instruction that doesn't read has rd x0, and gives 0
+abbrev pub csr_old :
+    (reads : Bool) → CsrFile → ℕ → Mode → (timer external : Bool) → (clock retired : ℕ) → Option ℕ
+csr_old true c number mode timer external clock retired =
+    csr_read c number mode timer external clock retired
+csr_old false c number mode timer external clock retired = Some 0
+
+abbrev pub done_if_written : ℕ → Option CsrFile → Option CsrDone
+done_if_written old None = None
+done_if_written old (Some written) = Some (record { value = old; csrs = written })
+
+abbrev pub csr_replaced :
+    (writes : Bool) → CsrOp → (number operand : ℕ) → Mode → CsrFile → (old : ℕ) → Option CsrDone
+csr_replaced false op number operand mode c old = Some (record { value = old; csrs = c })
+csr_replaced true op number operand mode c old =
+    done_if_written old (csr_write c number (csr_operated op old operand) mode)
+
+abbrev pub done_if_read :
+    Option ℕ → (writes : Bool) → CsrOp → (number operand : ℕ) → Mode → CsrFile → Option CsrDone
+done_if_read None writes op number operand mode c = None
+done_if_read (Some old) writes op number operand mode c = csr_replaced writes op number operand mode c old
+
+-- a CSR instruction; None, and nothing is changed, where its read or its write is illegal
+abbrev pub csr_done :
+    CsrFile →
+    CsrOp →
+    (number operand : ℕ) →
+    (reads writes : Bool) →
+    Mode →
+    (timer external : Bool) →
+    (clock retired : ℕ) →
+    Option CsrDone
+csr_done c op number operand reads writes mode timer external clock retired =
+    done_if_read (csr_old reads c number mode timer external clock retired) writes op number operand mode c

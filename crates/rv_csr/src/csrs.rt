@@ -120,12 +120,13 @@ impl Csrs {
         clock: u64,
         retired: u64,
     ) -> Result<u64, Illegal>
-        ensures { ReadsCsr result (csr_read self.now number mode wires.now.timer wires.now.external clock retired) }
+        ensures { ReadsCsr result
+            (csr_read self.now number mode wires.now.timer wires.now.external clock retired) }
     {
-        match mode {
-            Mode::U => Err(Illegal),
-            Mode::S => self.read_known(number, wires, clock, retired),
+        if mode == Mode::U {
+            return Err(Illegal);
         }
+        self.read_known(number, wires, clock, retired)
     }
 
     fn read_known(
@@ -135,7 +136,8 @@ impl Csrs {
         clock: u64,
         retired: u64,
     ) -> Result<u64, Illegal>
-        ensures { ReadsCsr result (value_if_known (csr_of number) self.now wires.now.timer wires.now.external clock retired) }
+        ensures { ReadsCsr result (value_if_known (csr_of number)
+            self.now wires.now.timer wires.now.external clock retired) }
     {
         match number {
             0x100 => Ok(self.sstatus()),
@@ -180,7 +182,8 @@ impl Csrs {
     }
 
     fn write_known(&mut self, number: u16, value: u64) -> Result<(), Illegal>
-        ensures { WritesCsr result self.old self.new (written_if_known (csr_of number) value self.old) }
+        ensures { WritesCsr result self.old self.new
+            (written_if_known (csr_of number) value self.old) }
     {
         match number {
             0x100 => self.write_sstatus(value),

@@ -1,11 +1,16 @@
 //! The supervisor's control and status registers of a hart, its traps and its interrupts.
 #![tactic(auto)]
 
+pub use asked::CsrAsked;
 pub use csrs::Csrs;
 pub use illegal::Illegal;
 pub use wires::Wires;
 
+mod asked;
 mod bits;
 mod csrs;
 mod illegal;
+mod operating;
+#[cfg(test)]
+mod tests;
 mod wires;
