@@ -1,1 +1,2 @@
+pub mod WalkFacts
 pub mod Walks

@@ -47,3 +47,23 @@ walk-pointer pages va (suc level) ppn next tables more entry is_entry is_kind is
     ap (λ (deep : ℕ). walk_from pages va deep (ppn_of entry.word) (tables ++ entry.page ∷ [])) (omega arith) ∙
     ap (λ (ppn : ℕ). walk_from pages va (suc level - 1) ppn (tables ++ entry.page ∷ [])) (sym is_next) ∙
     ap (walk_from pages va (suc level - 1) next) (sym is_more)
+
+-- ## Induction over a walk
+
+-- what one level adds, by its entry
+by-here : (va level ppn : ℕ) (tables : List Gpn) (real : Option TableWord) (go : ℕ → List Gpn → Walked) (Q : Walked → Type 0) → (None ≡ real → Q (found_none Refused tables)) → ((entry : TableWord) → Some entry ≡ real → Invalid ≡ entry_kind level entry.word → Q (found_none NoLeaf (tables ++ entry.page ∷ []))) → ((entry : TableWord) → Some entry ≡ real → LeafEntry ≡ entry_kind level entry.word → Q (found_leaf va level entry.word (tables ++ entry.page ∷ []))) → ((entry : TableWord) → Some entry ≡ real → Pointer ≡ entry_kind level entry.word → Q (go (ppn_of entry.word) (tables ++ entry.page ∷ []))) → (here : Option TableWord) → here ≡ real → Q (by_entry go va level tables here)
+by-here va level ppn tables real go Q refused invalid leaf pointer None e = refused e
+by-here va level ppn tables real go Q refused invalid leaf pointer (Some entry) e =
+    by_the_kind (entry_kind level entry.word) refl
+  where
+    by_the_kind : (kind : EntryKind) → kind ≡ entry_kind level entry.word → Q (by_kind go va level entry.word (tables ++ entry.page ∷ []) kind)
+    by_the_kind Invalid k = invalid entry e k
+    by_the_kind LeafEntry k = leaf entry e k
+    by_the_kind Pointer k = pointer entry e k
+
+pub walk-induction : (pages : List (Option (List ℕ))) (va : ℕ) (P : ℕ → ℕ → List Gpn → Walked → Type 0) → ((level ppn : ℕ) (tables : List Gpn) → None ≡ entry_at pages va level ppn → P level ppn tables (found_none Refused tables)) → ((level ppn : ℕ) (tables : List Gpn) (entry : TableWord) → Some entry ≡ entry_at pages va level ppn → Invalid ≡ entry_kind level entry.word → P level ppn tables (found_none NoLeaf (tables ++ entry.page ∷ []))) → ((level ppn : ℕ) (tables : List Gpn) (entry : TableWord) → Some entry ≡ entry_at pages va level ppn → LeafEntry ≡ entry_kind level entry.word → P level ppn tables (found_leaf va level entry.word (tables ++ entry.page ∷ []))) → ((level ppn : ℕ) (tables : List Gpn) (entry : TableWord) (walk : Walked) → Some entry ≡ entry_at pages va (suc level) ppn → Pointer ≡ entry_kind (suc level) entry.word → P level (ppn_of entry.word) (tables ++ entry.page ∷ []) walk → P (suc level) ppn tables walk) → (level ppn : ℕ) (tables : List Gpn) → P level ppn tables (walk_from pages va level ppn tables)
+unfolding walk_from
+walk-induction pages va P refused invalid leaf goes zero ppn tables =
+    by-here va 0 ppn tables (entry_at pages va 0 ppn) (λ next. found_none NoLeaf) (P 0 ppn tables) (refused 0 ppn tables) (invalid 0 ppn tables) (leaf 0 ppn tables) (λ entry e k. absurd (last-level entry.word k)) (entry_at pages va 0 ppn) refl
+walk-induction pages va P refused invalid leaf goes (suc level) ppn tables =
+    by-here va (suc level) ppn tables (entry_at pages va (suc level) ppn) (walk_from pages va level) (P (suc level) ppn tables) (refused (suc level) ppn tables) (invalid (suc level) ppn tables) (leaf (suc level) ppn tables) (λ entry e k. goes level ppn tables entry _ e k (walk-induction pages va P refused invalid leaf goes level (ppn_of entry.word) (tables ++ entry.page ∷ []))) (entry_at pages va (suc level) ppn) refl

@@ -1,6 +1,6 @@
 -- Page-table entries of Sv39 (Privileged ISA, "Sv39: Page-Based 39-bit Virtual-Memory System",
 -- "Addressing and Memory Protection"). An entry is its 64 bits as a number.
-use Rattle.std.specs.Prelude.{ℕ, suc, zero, ◌+◌, ◌*◌, ◌/◌, ◌%◌, ◌^◌, ◌==◌, Bool, true, false, not, ◌&&◌, ◌||◌}
+use Rattle.std.specs.Prelude.{ℕ, suc, zero, ◌*◌, ◌/◌, ◌%◌, ◌^◌, ◌==◌, Bool, true, false, not, ◌&&◌, ◌||◌}
 
 abbrev pub bit : ℕ → ℕ → Bool
 bit number i = number / 2 ^ i % 2 == 1

@@ -59,7 +59,7 @@ pub record Landing : Type 0 where
   pub ppn : ℕ
   pub flags : ℕ
   pub bare : Bool
-  pub tables : List Gpn -- the pages whose entries were read, root first
+  pub tables : List Gpn  -- the pages whose entries were read, root first
 
 -- why a walk finds no page: the tables hold no leaf for the address, or an entry's page isn't free
 pub data WalkFault : Type 0 where
@@ -79,13 +79,13 @@ abbrev pub found_leaf : ℕ → ℕ → ℕ → List Gpn → Walked
 found_leaf va level entry tables = record {
   read = tables;
   found =
-    Ok
-    (record {
-      ppn = ppn_of entry + vpn_of va % 2 ^ (9 * level);
-      flags = flags_of entry;
-      bare = false;
-      tables = tables
-    })
+      Ok
+      (record {
+        ppn = ppn_of entry + vpn_of va % 2 ^ (9 * level);
+        flags = flags_of entry;
+        bare = false;
+        tables = tables;
+      });
 }
 
 -- from here on `go` walks on at the next level, from the physical page of a table
@@ -113,7 +113,7 @@ walk_sv39 pages satp va false = found_none NoLeaf []
 abbrev pub walk_bare : ℕ → Walked
 walk_bare va = record {
   read = [];
-  found = Ok (record { ppn = vpn_of va; flags = 0; bare = true; tables = [] })
+  found = Ok (record { ppn = vpn_of va; flags = 0; bare = true; tables = [] });
 }
 
 abbrev pub by_mode : List (Option (List ℕ)) → ℕ → ℕ → Bool → Walked

@@ -1,5 +1,5 @@
 -- What the walk's answers are in the definitions of the flat machine.
-use Rattle.std.specs.Prelude.{ℕ, Option, Some, None, Result, Ok, Err}
+use Rattle.std.specs.Prelude.{Option, Some, None, Result, Ok, Err}
 use Rattle.bn_model.specs.Entries as entries
 use Rattle.bn_model.specs.Walking as walking
 use Rattle.bn_types.specs.declared.cause.Cause.{Cause}
@@ -20,7 +20,7 @@ landing leaf = record {
   ppn = leaf.ppn;
   flags = leaf.flags;
   bare = leaf.bare;
-  tables = leaf.tables.items
+  tables = leaf.tables.items;
 }
 
 abbrev pub fault : LeafFault → walking.WalkFault

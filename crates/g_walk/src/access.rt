@@ -1,5 +1,6 @@
-ghost use Rattle.std.specs.Prelude.{◌≡◌, ℕ, ◌+◌, ◌*◌, ◌≤◌, length};
+ghost use Rattle.std.specs.Prelude.{◌≡◌, ℕ, ◌+◌, ◌*◌, ◌≤◌, ◌<◌, ◌^◌, false, length, IfOk};
 ghost use Rattle.bn_model.specs.Walking.{HasMode, access_fault, page_fault, tables_read, walk_of};
+ghost use Rattle.bn_model.specs.WalkLaws.{AllFree};
 ghost use Rattle.g_walk.specs.Answers.{reached};
 
 use crate::{Leaf, LeafFault, leaf, permit};
@@ -25,9 +26,7 @@ pub fn walk<P: Pages, L: Ledger>(
     requires mode { HasMode satp }
     requires few { length (P.visible pages.now) ≤ 4096 }
     ensures walk { reached result ≡ walk_of (P.visible pages.now) satp va kind mode sum mxr }
-    ensures steps {
-        steps.new ≡ steps.old + 4 * length (tables_read (P.visible pages.now) satp va)
-    }
+    ensures steps { steps.new ≡ steps.old + 4 * length (tables_read (P.visible pages.now) satp va) }
 {
     match leaf(pages, satp, va, steps) {
         Ok(leaf) if permit(&leaf, kind, mode, sum, mxr) => Ok(leaf),

@@ -3,11 +3,17 @@ ghost use Rattle.bn_model.specs.Entries.{bit, ppn_of, malformed, aligned, entry_
 ghost use Rattle.g_walk.specs.Answers.{kind};
 
 pub const VALID: u32 = 0;
+
 pub const READ: u32 = 1;
+
 pub const WRITE: u32 = 2;
+
 pub const EXECUTE: u32 = 3;
+
 pub const USER: u32 = 4;
+
 pub const ACCESSED: u32 = 6;
+
 pub const DIRTY: u32 = 7;
 
 /// What an entry is to a walk.

@@ -1,5 +1,6 @@
 ghost use Rattle.std.specs.Prelude.{◌≡◌, ℕ, ◌+◌, ◌*◌, ◌<◌, ◌≤◌, ◌^◌, ◌%◌, Ok, Some, false, length, IfSome, IfNone};
 ghost use Rattle.bn_model.specs.Walking.{HasMode, canonical, entry_at, found_leaf, guest_page, index_of, leaf_of, tables_read, walk_bare, walk_from};
+ghost use Rattle.bn_model.specs.WalkLaws.{AllFree};
 ghost use Rattle.g_walk.specs.Answers.{found, landing, table_word};
 
 use crate::entry::{EntryKind, kind_of, ppn_in};
@@ -31,9 +32,7 @@ pub fn leaf<P: Pages, L: Ledger>(
     requires mode { HasMode satp }
     requires few { length (P.visible pages.now) ≤ 4096 }
     ensures leaf { found result ≡ leaf_of (P.visible pages.now) satp va }
-    ensures steps {
-        steps.new ≡ steps.old + 4 * length (tables_read (P.visible pages.now) satp va)
-    }
+    ensures steps { steps.new ≡ steps.old + 4 * length (tables_read (P.visible pages.now) satp va) }
 {
     if satp >> 60 == 0 {
         return Ok(in_bare(va));
@@ -125,13 +124,9 @@ fn descend<P: Pages, L: Ledger>(
 ) -> Result<Leaf, LeafFault>
     requires room { length tables.items + level ≤ 2 }
     requires few { length (P.visible pages.now) ≤ 4096 }
-    ensures leaf {
-        found result ≡ (walk_from (P.visible pages.now) va level ppn tables.items).found
-    }
-    ensures steps {
-        let walk = walk_from (P.visible pages.now) va level ppn tables.items in
-        steps.new + 4 * length tables.items ≡ steps.old + 4 * length walk.read
-    }
+    ensures leaf { found result ≡ (walk_from (P.visible pages.now) va level ppn tables.items).found }
+    ensures steps { let walk = walk_from (P.visible pages.now) va level ppn tables.items in
+        steps.new + 4 * length tables.items ≡ steps.old + 4 * length walk.read }
 {
     let Some(entry) = read_entry(pages, va, level, ppn, steps) else {
         return Err(LeafFault::Refused);
