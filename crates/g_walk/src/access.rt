@@ -27,6 +27,10 @@ pub fn walk<P: Pages, L: Ledger>(
     requires few { length (P.visible pages.now) ≤ 4096 }
     ensures walk { reached result ≡ walk_of (P.visible pages.now) satp va kind mode sum mxr }
     ensures steps { steps.new ≡ steps.old + 4 * length (tables_read (P.visible pages.now) satp va) }
+    ensures few_steps { steps.new ≤ steps.old + 12 }
+    ensures leaf_steps { IfOk result (λ leaf. steps.new ≡ steps.old + 4 * length leaf.tables.items) }
+    ensures free { IfOk result (λ leaf. AllFree (P.visible pages.now) leaf.tables.items) }
+    ensures ppn { IfOk result (λ leaf. leaf.bare ≡ false → leaf.ppn < 2 ^ 44) }
 {
     match leaf(pages, satp, va, steps) {
         Ok(leaf) if permit(&leaf, kind, mode, sum, mxr) => Ok(leaf),

@@ -13,3 +13,5 @@ mod fault;
 mod found;
 mod permission;
 mod structure;
+#[cfg(test)]
+mod tests;

@@ -1,4 +1,4 @@
-ghost use Rattle.std.specs.Prelude.{◌≡◌, ℕ, ◌+◌, ◌*◌, ◌<◌, ◌≤◌, ◌^◌, ◌%◌, Ok, Some, false, length, IfSome, IfNone};
+ghost use Rattle.std.specs.Prelude.{◌≡◌, ℕ, ◌+◌, ◌*◌, ◌<◌, ◌≤◌, ◌^◌, ◌%◌, Ok, Some, false, length, IfOk, IfSome, IfNone};
 ghost use Rattle.bn_model.specs.Walking.{HasMode, canonical, entry_at, found_leaf, guest_page, index_of, leaf_of, tables_read, walk_bare, walk_from};
 ghost use Rattle.bn_model.specs.WalkLaws.{AllFree};
 ghost use Rattle.g_walk.specs.Answers.{found, landing, table_word};
@@ -33,6 +33,10 @@ pub fn leaf<P: Pages, L: Ledger>(
     requires few { length (P.visible pages.now) ≤ 4096 }
     ensures leaf { found result ≡ leaf_of (P.visible pages.now) satp va }
     ensures steps { steps.new ≡ steps.old + 4 * length (tables_read (P.visible pages.now) satp va) }
+    ensures few_steps { steps.new ≤ steps.old + 12 }
+    ensures leaf_steps { IfOk result (λ leaf. steps.new ≡ steps.old + 4 * length leaf.tables.items) }
+    ensures free { IfOk result (λ leaf. AllFree (P.visible pages.now) leaf.tables.items) }
+    ensures ppn { IfOk result (λ leaf. leaf.bare ≡ false → leaf.ppn < 2 ^ 44) }
 {
     if satp >> 60 == 0 {
         return Ok(in_bare(va));
