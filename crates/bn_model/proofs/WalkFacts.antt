@@ -1,11 +1,11 @@
 -- What holds of every walk.
-use Rattle.std.proofs.Common.{◌≡◌, ◌≢◌, ℕ, zero, suc, ◌+◌, ◌*◌, ◌%◌, ◌^◌, ◌==◌, ◌<◌, ◌≤◌, Bool, true, false, List, ◌∷◌, [], ◌++◌, length, Option, Some, None, Result, Ok, Err, IfOk, slice_get, refl, sym, ◌∙◌, ap, arith, length-append, eqb-true}
+use Rattle.std.proofs.Common.{◌≡◌, ◌≢◌, ℕ, zero, suc, ◌+◌, ◌*◌, ◌%◌, ◌^◌, ◌==◌, ◌<◌, ◌≤◌, Bool, true, false, List, ◌∷◌, [], ◌++◌, length, Option, Some, None, Result, Ok, Err, IfOk, slice_get, refl, sym, ◌∙◌, ap, subst, arith, length-append, eqb-true}
 use Rattle.std.proofs.lemmas.List.Elements.{All-nil, All-pop, All-push}
 use Rattle.bn_types.specs.declared.gpn.Gpn.{Gpn}
 use Rattle.bn_types.specs.declared.page_state.PageState.TheVariants.{Free, Owned, Outside}
 use Rattle.bn_types.specs.Visible.{state_of, state_at, word_of}
 use Rattle.bn_model.specs.Entries.{entry_kind, kind_by_flags, leaf_kind, pointer_kind, aligned, ppn_of, Invalid, LeafEntry, Pointer}
-use Rattle.bn_model.specs.Walking.{Landing, TableWord, Walked, WalkFault, NoLeaf, Refused, by_mode, canonical, entry_at, found_leaf, found_none, mode_of, root_of, table_word, vpn_of, walk_bare, walk_from, walk_sv39, walked, with_page}
+use Rattle.bn_model.specs.Walking.{Landing, TableWord, Walked, WalkFault, NoLeaf, Refused, by_mode, canonical, entry_at, found_leaf, found_none, leaf_of, mode_of, root_of, table_word, vpn_of, walk_bare, walk_from, walk_sv39, walked, with_page}
 use Rattle.bn_model.specs.WalkLaws.{AgreeOn, AllFree, NoneFreed}
 use Rattle.bn_model.proofs.Walks.{walk-induction, walk-none, walk-kind, walk-pointer}
 
@@ -117,28 +117,28 @@ from-local pages others va level ppn tables =
     refused : (level ppn : ℕ) (tables : List Gpn) → None ≡ entry_at pages va level ppn → Local pages others va level ppn tables (found_none Refused tables)
     refused level ppn tables e = record {
       before = λ agree. agree;
-      same = λ agree none_freed. walk-none others va level ppn tables (none-kept pages others _ _ e (none_freed refl))
+      same = λ agree none_freed. walk-none others va level ppn tables (none-kept pages others _ _ e (none_freed refl));
     }
 
     invalid : (level ppn : ℕ) (tables : List Gpn) (entry : TableWord) → Some entry ≡ entry_at pages va level ppn → Invalid ≡ entry_kind level entry.word → Local pages others va level ppn tables (found_none NoLeaf (tables ++ entry.page ∷ []))
     invalid level ppn tables entry e k = record {
       before = λ agree. (last tables entry.page agree).0;
-      same = λ agree none_freed. walk-kind others va level ppn tables entry Invalid (entry-kept pages others _ entry _ e (last tables entry.page agree).1) k
+      same = λ agree none_freed. walk-kind others va level ppn tables entry Invalid (entry-kept pages others _ entry _ e (last tables entry.page agree).1) k;
     }
 
     leaf : (level ppn : ℕ) (tables : List Gpn) (entry : TableWord) → Some entry ≡ entry_at pages va level ppn → LeafEntry ≡ entry_kind level entry.word → Local pages others va level ppn tables (found_leaf va level entry.word (tables ++ entry.page ∷ []))
     leaf level ppn tables entry e k = record {
       before = λ agree. (last tables entry.page agree).0;
-      same = λ agree none_freed. walk-kind others va level ppn tables entry LeafEntry (entry-kept pages others _ entry _ e (last tables entry.page agree).1) k
+      same = λ agree none_freed. walk-kind others va level ppn tables entry LeafEntry (entry-kept pages others _ entry _ e (last tables entry.page agree).1) k;
     }
 
     goes : (level ppn : ℕ) (tables : List Gpn) (entry : TableWord) (walk : Walked) → Some entry ≡ entry_at pages va (suc level) ppn → Pointer ≡ entry_kind (suc level) entry.word → Local pages others va level (ppn_of entry.word) (tables ++ entry.page ∷ []) walk → Local pages others va (suc level) ppn tables walk
     goes level ppn tables entry walk e k deeper = record {
       before = λ agree. (last tables entry.page (deeper.before agree)).0;
       same = λ agree none_freed.
-        walk-pointer others va (suc level) ppn (ppn_of entry.word) tables (tables ++ entry.page ∷ []) entry (entry-kept pages others _ entry _ e (last tables entry.page (deeper.before agree)).1) k refl refl ∙
-        ap (λ (below : ℕ). walk_from others va below (ppn_of entry.word) (tables ++ entry.page ∷ [])) (omega arith) ∙
-        deeper.same agree none_freed
+          walk-pointer others va (suc level) ppn (ppn_of entry.word) tables (tables ++ entry.page ∷ []) entry (entry-kept pages others _ entry _ e (last tables entry.page (deeper.before agree)).1) k refl refl ∙
+          ap (λ (below : ℕ). walk_from others va below (ppn_of entry.word) (tables ++ entry.page ∷ [])) (omega arith) ∙
+          deeper.same agree none_freed;
     }
 
 -- ## Each walk of an address
@@ -189,3 +189,14 @@ walked-local pages others satp va = go (mode_of satp == 0)
     go : (bare : Bool) → AgreeOn pages others (by_mode pages satp va bare).read → ((by_mode pages satp va bare).found ≡ Err Refused → NoneFreed pages others) → by_mode others satp va bare ≡ by_mode pages satp va bare
     go true agree none_freed = refl
     go false agree none_freed = in_sv39 (canonical va) agree none_freed
+
+-- the read tables of a walk that leads to a leaf are the leaf's
+read-is : (walk : Walked) (leaf : Landing) → walk.found ≡ Ok leaf → IfOk walk.found (λ leaf. leaf.tables ≡ walk.read) → leaf.tables ≡ walk.read
+read-is walk leaf e same =
+    let Named : Result Landing WalkFault → Type 0 = λ found. IfOk found (λ leaf. leaf.tables ≡ walk.read) in subst Named e same
+
+pub leaf-local : (pages others : List (Option (List ℕ))) (satp va : ℕ) (leaf : Landing) → leaf_of pages satp va ≡ Ok leaf → AgreeOn pages others leaf.tables → leaf_of others satp va ≡ Ok leaf
+leaf-local pages others satp va leaf e agree =
+    ap (λ (walk : Walked). walk.found)
+    (walked-local pages others satp va (subst (AgreeOn pages others) (read-is (walked pages satp va) leaf e (walked-tables pages satp va)) agree) (λ refused. absurd (let h : Ok leaf ≡ Err Refused = sym e ∙ refused in cc))) ∙
+    e

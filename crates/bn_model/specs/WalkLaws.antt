@@ -1,10 +1,10 @@
 -- What holds of every walk.
-use Rattle.std.specs.Prelude.{◌≡◌, ◌≢◌, ℕ, ◌≤◌, List, Option, Err, slice_get, length}
+use Rattle.std.specs.Prelude.{◌≡◌, ◌≢◌, ℕ, ◌≤◌, List, Option, Ok, Err, slice_get, length}
 use Rattle.std.specs.List.{All}
 use Rattle.bn_types.specs.Visible.{state_at}
 use Rattle.bn_types.specs.declared.gpn.Gpn.{Gpn}
 use Rattle.bn_types.specs.declared.page_state.PageState.TheVariants.{Free}
-use Rattle.bn_model.specs.Walking.{Refused, leaf_of, tables_read, walked}
+use Rattle.bn_model.specs.Walking.{Landing, Refused, leaf_of, tables_read, walked}
 
 -- each of these pages is in RAM, and no live module declares it
 abbrev pub AllFree : List (Option (List ℕ)) → List Gpn → Type 0
@@ -37,3 +37,8 @@ WalksAreLocal =
 abbrev pub RefusedWalksAreLocal : Type 0
 RefusedWalksAreLocal =
     (pages others : List (Option (List ℕ))) (satp va : ℕ) → AgreeOn pages others (tables_read pages satp va) → NoneFreed pages others → walked others satp va ≡ walked pages satp va
+
+-- a leaf is the same on pages that agree on the tables that led to it
+abbrev pub LeavesAreLocal : Type 0
+LeavesAreLocal =
+    (pages others : List (Option (List ℕ))) (satp va : ℕ) (leaf : Landing) → leaf_of pages satp va ≡ Ok leaf → AgreeOn pages others leaf.tables → leaf_of others satp va ≡ Ok leaf

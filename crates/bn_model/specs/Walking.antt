@@ -99,7 +99,7 @@ by_entry go va level tables None = found_none Refused tables
 by_entry go va level tables (Some entry) =
     by_kind go va level entry.word (tables ++ entry.page ∷ []) (entry_kind level entry.word)
 
--- the walk from the table of a level on, the tables above it read
+-- the walk from the table of a level on, the tables above it read; below level 0 there is no table
 unfoldable pub walk_from : List (Option (List ℕ)) → ℕ → ℕ → ℕ → List Gpn → Walked
 walk_from pages va zero ppn tables =
     by_entry (λ next. found_none NoLeaf) va 0 tables (entry_at pages va 0 ppn)

@@ -11,8 +11,9 @@ use std::sync::ledger::Ledger;
 /// MXR of `sstatus` as given: the leaf, where it permits the access (Privileged ISA, "Virtual Address
 /// Translation Process").
 ///
-/// The error is the access fault of the kind (1, 5, 7) where a table entry lies on a page that isn't free,
-/// and else the page fault of the kind (12, 13, 15). Each entry that is read costs four steps.
+/// `satp` has MODE 0 (Bare) or 8 (Sv39), and there are at most 4,096 pages. The error is the access fault
+/// of the kind (1, 5, 7) where a table entry lies on a page that isn't free, and else the page fault of the
+/// kind (12, 13, 15). Each entry that is read costs four steps, so a walk at most twelve.
 pub fn walk<P: Pages, L: Ledger>(
     pages: &P,
     satp: u64,

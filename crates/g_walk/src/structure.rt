@@ -20,8 +20,9 @@ struct TableEntry {
 /// tests of permission, A and D (Privileged ISA, "Virtual Address Translation Process"). In Bare it is
 /// the address's own page.
 ///
-/// `Page`: the address isn't canonical, or an entry on the way is invalid. `Refused`: an entry on the
-/// way lies on a page that isn't free. Each entry that is read costs four steps.
+/// `satp` has MODE 0 (Bare) or 8 (Sv39), and there are at most 4,096 pages. `Page`: bits 63:39 of the
+/// address don't equal bit 38, or an entry on the way is invalid. `Refused`: an entry on the way lies on a
+/// page that isn't free. Each entry that is read costs four steps, so a walk at most twelve.
 #[tactic(auto, unfolding(bn_model::specs::Walking::walked))]
 pub fn leaf<P: Pages, L: Ledger>(
     pages: &P,
@@ -47,6 +48,7 @@ pub fn leaf<P: Pages, L: Ledger>(
     descend(pages, va, 2, satp % (1 << 44), ArrayVec::new(), steps)
 }
 
+/// The address's own page.
 fn in_bare(va: u64) -> Leaf
     ensures { Ok (landing result) ≡ (walk_bare va).found }
 {
@@ -58,6 +60,7 @@ fn in_bare(va: u64) -> Leaf
     }
 }
 
+/// Whether bits 63:39 equal bit 38.
 fn is_canonical(va: u64) -> bool
     ensures { result ≡ canonical va }
 {
@@ -65,6 +68,7 @@ fn is_canonical(va: u64) -> bool
     high == 0 || high == (1 << 26) - 1
 }
 
+/// The index of the address's entry in a table of the level.
 fn index_in(va: u64, level: u8) -> u16
     requires { level ≤ 2 }
     ensures { result ≡ index_of level va }
