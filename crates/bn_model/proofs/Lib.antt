@@ -10,3 +10,5 @@ pub mod PageNumbers
 pub mod RunningLemmas
 pub mod SteppingLemmas
 pub mod WordLemmas
+pub mod WalkFacts
+pub mod Walks

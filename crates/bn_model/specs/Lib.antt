@@ -20,3 +20,6 @@ pub mod State
 pub mod Stepping
 pub mod Trapping
 pub mod TwosComplement
+pub mod Entries
+pub mod WalkLaws
+pub mod Walking

@@ -1,8 +1,10 @@
-//! The flat machine: what the emulator is proved to do, as definitions that anyone can read, in specs/.
+//! The flat machine: what the emulator is proved to do, as definitions that anyone can read, in specs/, and
+//! the laws of these definitions, in `laws`.
 #![tactic(auto)]
 
 pub use decision::Decision;
 pub use place::Place;
 
 mod decision;
+pub mod laws;
 mod place;

@@ -1,0 +1,17 @@
+//! The guest's Sv39 walk over the guest pages.
+#![tactic(auto)]
+
+pub use access::walk;
+pub use fault::LeafFault;
+pub use found::Leaf;
+pub use permission::permit;
+pub use structure::leaf;
+
+mod access;
+mod entry;
+mod fault;
+mod found;
+mod permission;
+mod structure;
+#[cfg(test)]
+mod tests;

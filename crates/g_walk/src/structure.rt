@@ -1,0 +1,148 @@
+ghost use Rattle.std.specs.Prelude.{◌≡◌, ℕ, ◌+◌, ◌*◌, ◌<◌, ◌≤◌, ◌^◌, ◌%◌, Ok, Some, false, length, IfOk, IfSome, IfNone};
+ghost use Rattle.bn_model.specs.Walking.{HasMode, canonical, entry_at, found_leaf, guest_page, index_of, leaf_of, tables_read, walk_bare, walk_from};
+ghost use Rattle.bn_model.specs.WalkLaws.{AllFree};
+ghost use Rattle.g_walk.specs.Answers.{found, landing, table_word};
+
+use crate::entry::{EntryKind, kind_of, ppn_in};
+use crate::{Leaf, LeafFault};
+use arrayvec::ArrayVec;
+use bn_types::{Gpn, Pages, Steps};
+use std::sync::ledger::Ledger;
+
+/// A word of a table, and the page that it lies on.
+#[derive(Clone, Copy)]
+struct TableEntry {
+    page: Gpn,
+    word: u64,
+}
+
+/// The structural walk of the virtual address `va` by `satp`: the leaf that the tables lead to, without
+/// tests of permission, A and D (Privileged ISA, "Virtual Address Translation Process"). In Bare it is
+/// the address's own page.
+///
+/// `satp` has MODE 0 (Bare) or 8 (Sv39), and there are at most 4,096 pages. `Page`: bits 63:39 of the
+/// address don't equal bit 38, or an entry on the way is invalid. `Refused`: an entry on the way lies on a
+/// page that isn't free. Each entry that is read costs four steps, so a walk at most twelve.
+#[tactic(auto, unfolding(bn_model::specs::Walking::walked))]
+pub fn leaf<P: Pages, L: Ledger>(
+    pages: &P,
+    satp: u64,
+    va: u64,
+    steps: &mut Steps<L>,
+) -> Result<Leaf, LeafFault>
+    requires mode { HasMode satp }
+    requires few { length (P.visible pages.now) ≤ 4096 }
+    ensures leaf { found result ≡ leaf_of (P.visible pages.now) satp va }
+    ensures steps { steps.new ≡ steps.old + 4 * length (tables_read (P.visible pages.now) satp va) }
+    ensures few_steps { steps.new ≤ steps.old + 12 }
+    ensures leaf_steps { IfOk result (λ leaf. steps.new ≡ steps.old + 4 * length leaf.tables.items) }
+    ensures free { IfOk result (λ leaf. AllFree (P.visible pages.now) leaf.tables.items) }
+    ensures ppn { IfOk result (λ leaf. leaf.bare ≡ false → leaf.ppn < 2 ^ 44) }
+{
+    if satp >> 60 == 0 {
+        return Ok(in_bare(va));
+    }
+    if !is_canonical(va) {
+        return Err(LeafFault::Page);
+    }
+    descend(pages, va, 2, satp % (1 << 44), ArrayVec::new(), steps)
+}
+
+/// The address's own page.
+fn in_bare(va: u64) -> Leaf
+    ensures { Ok (landing result) ≡ (walk_bare va).found }
+{
+    Leaf {
+        ppn: va >> 12,
+        flags: 0,
+        bare: true,
+        tables: ArrayVec::new(),
+    }
+}
+
+/// Whether bits 63:39 equal bit 38.
+fn is_canonical(va: u64) -> bool
+    ensures { result ≡ canonical va }
+{
+    let high = va >> 38;
+    high == 0 || high == (1 << 26) - 1
+}
+
+/// The index of the address's entry in a table of the level.
+fn index_in(va: u64, level: u8) -> u16
+    requires { level ≤ 2 }
+    ensures { result ≡ index_of level va }
+{
+    ((va >> 12 >> (9 * level)) % 512) as u16
+}
+
+/// The guest page of a physical page, where its number fits.
+fn guest_page_of(ppn: u64) -> Option<Gpn>
+    ensures page { IfSome result (λ page. guest_page ppn ≡ Some page.0) }
+    ensures outside { IfNone result (IfSome (guest_page ppn) (λ page. 2 ^ 32 ≤ page)) }
+{
+    if ppn < 0x80000 || ppn - 0x80000 > u32::MAX as u64 {
+        None
+    } else {
+        Some(Gpn((ppn - 0x80000) as u32))
+    }
+}
+
+/// The entry for the address in the table of a level, on the page with number `ppn`.
+fn read_entry<P: Pages, L: Ledger>(
+    pages: &P,
+    va: u64,
+    level: u8,
+    ppn: u64,
+    steps: &mut Steps<L>,
+) -> Option<TableEntry>
+    requires level { level ≤ 2 }
+    requires few { length (P.visible pages.now) ≤ 4096 }
+    ensures entry { table_word result ≡ entry_at (P.visible pages.now) va level ppn }
+    ensures none { IfNone result (steps.new ≡ steps.old) }
+    ensures some { IfSome result (λ _. steps.new ≡ steps.old + 4) }
+{
+    let page = guest_page_of(ppn)?;
+    let word = pages.word(page, 8 * index_in(va, level), steps)?;
+    Some(TableEntry { page, word })
+}
+
+/// What the walk finds at a leaf entry of the level. A superpage takes its low page number from the
+/// address.
+fn leaf_at(va: u64, level: u8, entry: u64, tables: ArrayVec<Gpn, 3>) -> Leaf
+    requires { level ≤ 2 }
+    ensures { Ok (landing result) ≡ (found_leaf va level entry tables.items).found }
+{
+    Leaf {
+        ppn: ppn_in(entry) + (va >> 12) % (1 << (9 * level)),
+        flags: (entry % 256) as u8,
+        bare: false,
+        tables,
+    }
+}
+
+/// Walks on from the table of a level, on the page with number `ppn`, having read `tables`.
+fn descend<P: Pages, L: Ledger>(
+    pages: &P,
+    va: u64,
+    level: u8,
+    ppn: u64,
+    mut tables: ArrayVec<Gpn, 3>,
+    steps: &mut Steps<L>,
+) -> Result<Leaf, LeafFault>
+    requires room { length tables.items + level ≤ 2 }
+    requires few { length (P.visible pages.now) ≤ 4096 }
+    ensures leaf { found result ≡ (walk_from (P.visible pages.now) va level ppn tables.items).found }
+    ensures steps { let walk = walk_from (P.visible pages.now) va level ppn tables.items in
+        steps.new + 4 * length tables.items ≡ steps.old + 4 * length walk.read }
+{
+    let Some(entry) = read_entry(pages, va, level, ppn, steps) else {
+        return Err(LeafFault::Refused);
+    };
+    tables.push(entry.page);
+    match kind_of(level, entry.word) {
+        EntryKind::Invalid => Err(LeafFault::Page),
+        EntryKind::Leaf => Ok(leaf_at(va, level, entry.word, tables)),
+        EntryKind::Pointer => descend(pages, va, level - 1, ppn_in(entry.word), tables, steps),
+    }
+}

@@ -1,0 +1,50 @@
+ghost use Rattle.std.specs.Prelude.{◌≡◌, ◌+◌, ◌≤◌, length};
+ghost use Rattle.bn_types.specs.Numbers.{number_at};
+ghost use Rattle.bn_types.specs.declared.width.Width.TheVariants.{B8};
+
+use bn_types::{Gpn, PageState, Pages, Steps};
+use std::sync::ledger::Ledger;
+
+/// Pages with their bytes, None where a module owns one.
+#[derive(Clone, Copy)]
+pub struct Flat<'a> {
+    pub pages: &'a [Option<[u8; 4096]>],
+}
+
+impl Pages for Flat<'_> {
+    ghost use Rattle.std.specs.Prelude.{ℕ, List, Option};
+
+    ghost visible = { λ flat. flat.pages.now };
+
+    fn state(&self, page: Gpn) -> PageState {
+        match self.pages.get(page.0 as usize) {
+            None => PageState::Outside,
+            Some(None) => PageState::Owned,
+            Some(Some(_)) => PageState::Free,
+        }
+    }
+
+    fn word<L: Ledger>(&self, page: Gpn, offset: u16, steps: &mut Steps<L>) -> Option<u64> {
+        match self.pages.get(page.0 as usize) {
+            None | Some(None) => None,
+            Some(Some(bytes)) => {
+                steps.tick();
+                steps.tick();
+                steps.tick();
+                steps.tick();
+                Some(word_in(bytes, offset as usize))
+            }
+        }
+    }
+}
+
+/// The 8-byte word at the offset.
+#[tactic(auto, unfolding(bn_types::specs::Numbers::number_at))]
+fn word_in(page: &[u8], offset: usize) -> u64
+    requires { offset + 8 ≤ length page.now }
+    ensures { result ≡ number_at B8 page.now offset }
+{
+    let mut word = [0; 8];
+    word.copy_from_slice(&page[offset..offset + 8]);
+    u64::from_le_bytes(word)
+}
