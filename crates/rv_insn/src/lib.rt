@@ -3,12 +3,8 @@
 #![tactic(auto)]
 
 pub use decoding::decode;
+pub use encoding::encode;
 
-mod arithmetic;
-mod control;
 mod decoding;
-mod fields;
-mod immediates;
-mod memory;
-mod secure_words;
-mod system;
+mod encoding;
+mod opcodes;

@@ -2,8 +2,8 @@
 ghost use Rattle.std.specs.Prelude.{◌≡◌};
 ghost use Rattle.bn_model.specs.Decoding as decoded;
 
-use crate::fields::{funct3, funct6, funct7, rd, rs1, rs2, shamt5, shamt6};
-use crate::immediates::i_immediate;
+use crate::decoding::fields::{funct3, funct6, funct7, rd, rs1, rs2, shamt5, shamt6};
+use crate::decoding::immediates::i_immediate;
 use bn_types::{ImmOp, Insn, Op, ShiftOp, WordOp};
 
 fn imm_of(op: ImmOp, word: u32) -> Insn
