@@ -1,12 +1,11 @@
 -- The table and the definition by opcodes say the same.
-use Rattle.std.proofs.Common.{◌≡◌, ℕ, ◌<◌, ◌^◌, Some, refl, true, false}
+use Rattle.std.proofs.Common.{◌≡◌, ℕ, Some, refl, true, false}
 use Rattle.bn_types.specs.declared.csr_from.CsrFrom.TheVariants.{Register, Number}
 use Rattle.bn_types.specs.declared.csr_op.CsrOp.TheVariants as csr_op
 use Rattle.bn_types.specs.declared.imm_op.ImmOp.TheVariants as imm_op
 use Rattle.bn_types.specs.declared.insn.Insn.{Insn}
 use Rattle.bn_types.specs.declared.insn.Insn.TheVariants.{Lui, Auipc, Jal, Jalr, Branch, Load, Store, Imm, Shift, Reg2, AddiW, ShiftW, Reg2W, Fence, Csr, Ecall, Ebreak, Sret, Wfi, SfenceVma, Bastion}
 use Rattle.bn_types.specs.declared.op.Op.TheVariants as op
-use Rattle.bn_types.specs.declared.reg.Reg.{Reg}
 use Rattle.bn_types.specs.declared.secure.Secure.TheVariants.{Launch, Call, Ret, Evict, Ident, Caller, Offerer, Sget, Sset}
 use Rattle.bn_types.specs.declared.shift_op.ShiftOp.TheVariants.{Left, Right, RightSigned}
 use Rattle.bn_types.specs.declared.test.Test.TheVariants.{Eq, Ne, Lt, Ge, Ltu, Geu}
@@ -14,7 +13,7 @@ use Rattle.bn_types.specs.declared.width.Width.TheVariants.{B1, B2, B4, B8}
 use Rattle.bn_types.specs.declared.word_op.WordOp.TheVariants as word_op
 use Rattle.bn_model.specs.Encoding.{Encodes}
 use Rattle.bn_model.specs.Decoding.{insn_of, jump_by_register, branch, load, store, with_immediate, of_registers, word_with_immediate, word_of_registers, fence, system, environment, secure_of}
-use Rattle.bn_model.specs.Fields.{opcode, rd, funct3, rs1, rs2, funct7, funct12}
+use Rattle.bn_model.specs.Fields.{opcode, rd, funct3, rs1, rs2, funct7}
 
 ecall : insn_of 0x00000073 ≡ Some Ecall
 unfolding insn_of system environment opcode funct3 funct7

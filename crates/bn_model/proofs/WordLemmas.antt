@@ -7,7 +7,6 @@ use Rattle.bn_types.specs.declared.imm_op.ImmOp.TheVariants as imm_op
 use Rattle.bn_types.specs.declared.insn.Insn.{Insn}
 use Rattle.bn_types.specs.declared.insn.Insn.TheVariants.{Lui, Auipc, Jal, Jalr, Branch, Load, Store, Imm, Shift, Reg2, AddiW, ShiftW, Reg2W, Fence, Csr, Ecall, Ebreak, Sret, Wfi, SfenceVma, Bastion}
 use Rattle.bn_types.specs.declared.op.Op.TheVariants as op
-use Rattle.bn_types.specs.declared.reg.Reg.{Reg}
 use Rattle.bn_types.specs.declared.secure.Secure.TheVariants.{Launch, Call, Ret, Evict, Ident, Caller, Offerer, Sget, Sset}
 use Rattle.bn_types.specs.declared.shift_op.ShiftOp.TheVariants.{Left, Right, RightSigned}
 use Rattle.bn_types.specs.declared.test.Test.TheVariants.{Eq, Ne, Lt, Ge, Ltu, Geu}
@@ -257,6 +256,27 @@ IsNone-insn_of w = (λ n i h. by_some n (insn_of-Encodes w i h), λ f. by_case (
   where
     by_some : {o : Option Insn} {i : Insn} → IsNone o → o ≡ Some i → ⊥
     by_some n e = (let m = subst IsNone e n in cc)
+
     by_case : (o : Option Insn) → IfSome o (Encodes w) → ((i : Insn) → ¬ Encodes w i) → IsNone o
     by_case None h f = refl
     by_case (Some i) h f = absurd (f i h)
+
+-- what the definition by opcodes gives is related to the word
+pub Encodes-found : (w : ℕ) (i : Insn) → insn_of w ≡ Some i → Encodes w i
+Encodes-found w i e = subst (λ (o : Option Insn). IfSome o (Encodes w)) e (Encodes-insn_of w)
+
+-- the table relates a word to one instruction at most
+pub one_insn : (w : ℕ) (i j : Insn) → Encodes w i → Encodes w j → i ≡ j
+one_insn w i j h k = some_same (sym (insn_of-Encodes w i h) ∙ insn_of-Encodes w j k)
+  where
+    some_same : {x y : Insn} → Some x ≡ Some y → x ≡ y
+    some_same e = cc
+
+-- and an instruction in range to exactly one word
+pub one_word :
+    (i : Insn) →
+    IsInRange i →
+    (w : ℕ) × (w < 2 ^ 32) × Encodes w i × ((v : ℕ) → v < 2 ^ 32 → Encodes v i → v ≡ w)
+one_word i r =
+    let s = some_word i r in
+    (s.0, s.1, s.2, λ v p h. Encodes-same v s.0 i p s.1 h s.2)

@@ -33,9 +33,18 @@ fn by_opcode(word: u32) -> Option<Insn>
     ensures { result ≡ insn_of word }
 {
     match opcode(word) {
-        LUI => Some(Insn::Lui { rd: rd(word), imm: u_immediate(word) }),
-        AUIPC => Some(Insn::Auipc { rd: rd(word), imm: u_immediate(word) }),
-        JAL => Some(Insn::Jal { rd: rd(word), offset: j_immediate(word) }),
+        LUI => Some(Insn::Lui {
+            rd: rd(word),
+            imm: u_immediate(word),
+        }),
+        AUIPC => Some(Insn::Auipc {
+            rd: rd(word),
+            imm: u_immediate(word),
+        }),
+        JAL => Some(Insn::Jal {
+            rd: rd(word),
+            offset: j_immediate(word),
+        }),
         JALR => jump_by_register(word),
         BRANCH => branch(word),
         LOAD => load(word),

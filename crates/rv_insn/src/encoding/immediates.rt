@@ -8,7 +8,11 @@ pub fn bits12(immediate: i32) -> u32
     ensures fits { result < 2 ^ 12 }
     ensures same { signed 12 result ≡ immediate }
 {
-    if immediate < 0 { (immediate + 0x1000) as u32 } else { immediate as u32 }
+    if immediate < 0 {
+        (immediate + 0x1000) as u32
+    } else {
+        immediate as u32
+    }
 }
 
 pub fn bits13(immediate: i32) -> u32
@@ -17,7 +21,11 @@ pub fn bits13(immediate: i32) -> u32
     ensures same { signed 13 result ≡ immediate }
     ensures even { IsMultipleOf 2 immediate → result % 2 ≡ 0 }
 {
-    if immediate < 0 { (immediate + 0x2000) as u32 } else { immediate as u32 }
+    if immediate < 0 {
+        (immediate + 0x2000) as u32
+    } else {
+        immediate as u32
+    }
 }
 
 pub fn bits21(immediate: i32) -> u32
@@ -26,7 +34,11 @@ pub fn bits21(immediate: i32) -> u32
     ensures same { signed 21 result ≡ immediate }
     ensures even { IsMultipleOf 2 immediate → result % 2 ≡ 0 }
 {
-    if immediate < 0 { (immediate + 0x20_0000) as u32 } else { immediate as u32 }
+    if immediate < 0 {
+        (immediate + 0x20_0000) as u32
+    } else {
+        immediate as u32
+    }
 }
 
 pub fn bits32(immediate: i32) -> u32
