@@ -8,3 +8,5 @@ pub use encoding::encode;
 mod decoding;
 mod encoding;
 mod opcodes;
+#[cfg(test)]
+mod tests;
