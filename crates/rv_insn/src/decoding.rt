@@ -5,10 +5,8 @@ ghost use Rattle.bn_model.specs.Decoding.{insn_of};
 ghost use Rattle.bn_model.specs.Encoding.{Encodes};
 ghost use Rattle.bn_model.specs.InsnRanges.{IsInRange};
 
-use crate::decoding::arithmetic::{
-    of_registers, with_immediate, word_of_registers, word_with_immediate,
-};
-use crate::decoding::control::{branch, jump_by_register};
+use crate::decoding::arithmetic::{op_imm, op_imm_32, op_reg, op_reg_32};
+use crate::decoding::control::{branch, jalr};
 use crate::decoding::fields::{opcode, rd};
 use crate::decoding::immediates::{j_immediate, u_immediate};
 use crate::decoding::memory::{fence, load, store};
@@ -45,14 +43,14 @@ fn by_opcode(word: u32) -> Option<Insn>
             rd: rd(word),
             offset: j_immediate(word),
         }),
-        JALR => jump_by_register(word),
+        JALR => jalr(word),
         BRANCH => branch(word),
         LOAD => load(word),
         STORE => store(word),
-        OP_IMM => with_immediate(word),
-        OP => of_registers(word),
-        OP_IMM_32 => word_with_immediate(word),
-        OP_32 => word_of_registers(word),
+        OP_IMM => op_imm(word),
+        OP => op_reg(word),
+        OP_IMM_32 => op_imm_32(word),
+        OP_32 => op_reg_32(word),
         MISC_MEM => fence(word),
         SYSTEM => system(word),
         CUSTOM_0 => secure(word),
@@ -60,9 +58,12 @@ fn by_opcode(word: u32) -> Option<Insn>
     }
 }
 
-/// The instruction of a word of 32 bits (Unprivileged ISA, "RV32/64G Instruction Set Listings"). None
-/// exactly where the word is no instruction of RV64I, Zicsr, the supervisor level or the secure
-/// extension.
+/// The instruction of a word (Unprivileged ISA, "RV32/64G Instruction Set Listings"; Privileged ISA,
+/// "RISC-V Privileged Instruction Set Listings").
+///
+/// None exactly where the word is no instruction of RV64I, Zicsr, the supervisor level or the secure
+/// extension. Each instruction has one word alone: bits that the manuals reserve must be zero, but those
+/// of FENCE, which are kept in its fields. The fields of the result are in the ranges that `Insn` names.
 pub fn decode(word: u32) -> Option<Insn>
     ensures exact { result ≡ insn_of word }
     ensures listed { IfSome result (Encodes word) }
