@@ -3,1137 +3,199 @@
 use super::{decode, encode};
 use bn_types::{CsrFrom, CsrOp, ImmOp, Insn, Op, Reg, Secure, ShiftOp, Test, Width, WordOp};
 
-const UPPER: [(u32, Insn); 12] = [
-    (0x00000037, Insn::Lui { rd: Reg(0), imm: 0 }),
-    (
-        0x000010b7,
-        Insn::Lui {
-            rd: Reg(1),
-            imm: 4096,
-        },
-    ),
-    (
-        0x7ffff2b7,
-        Insn::Lui {
-            rd: Reg(5),
-            imm: 2147479552,
-        },
-    ),
-    (
-        0x80000fb7,
-        Insn::Lui {
-            rd: Reg(31),
-            imm: -2147483648,
-        },
-    ),
-    (
-        0xfffff537,
-        Insn::Lui {
-            rd: Reg(10),
-            imm: -4096,
-        },
-    ),
-    (
-        0x123458b7,
-        Insn::Lui {
-            rd: Reg(17),
-            imm: 305418240,
-        },
-    ),
-    (0x00000017, Insn::Auipc { rd: Reg(0), imm: 0 }),
-    (
-        0x00001097,
-        Insn::Auipc {
-            rd: Reg(1),
-            imm: 4096,
-        },
-    ),
-    (
-        0x7ffff297,
-        Insn::Auipc {
-            rd: Reg(5),
-            imm: 2147479552,
-        },
-    ),
-    (
-        0x80000f97,
-        Insn::Auipc {
-            rd: Reg(31),
-            imm: -2147483648,
-        },
-    ),
-    (
-        0xfffff517,
-        Insn::Auipc {
-            rd: Reg(10),
-            imm: -4096,
-        },
-    ),
-    (
-        0x12345897,
-        Insn::Auipc {
-            rd: Reg(17),
-            imm: 305418240,
-        },
-    ),
+const LUI: [(u32, u8, i32); 6] = [
+    (0x00000037, 0, 0),
+    (0x000010b7, 1, 4096),
+    (0x7ffff2b7, 5, 2147479552),
+    (0x80000fb7, 31, -2147483648),
+    (0xfffff537, 10, -4096),
+    (0x123458b7, 17, 305418240),
 ];
 
-const JUMPS: [(u32, Insn); 15] = [
-    (
-        0x0000006f,
-        Insn::Jal {
-            rd: Reg(0),
-            offset: 0,
-        },
-    ),
-    (
-        0x002000ef,
-        Insn::Jal {
-            rd: Reg(1),
-            offset: 2,
-        },
-    ),
-    (
-        0xffffffef,
-        Insn::Jal {
-            rd: Reg(31),
-            offset: -2,
-        },
-    ),
-    (
-        0x7ffff2ef,
-        Insn::Jal {
-            rd: Reg(5),
-            offset: 1048574,
-        },
-    ),
-    (
-        0x8000036f,
-        Insn::Jal {
-            rd: Reg(6),
-            offset: -1048576,
-        },
-    ),
-    (
-        0x001000ef,
-        Insn::Jal {
-            rd: Reg(1),
-            offset: 2048,
-        },
-    ),
-    (
-        0x000010ef,
-        Insn::Jal {
-            rd: Reg(1),
-            offset: 4096,
-        },
-    ),
-    (
-        0x800ff3ef,
-        Insn::Jal {
-            rd: Reg(7),
-            offset: -4096,
-        },
-    ),
-    (
-        0x400000ef,
-        Insn::Jal {
-            rd: Reg(1),
-            offset: 1024,
-        },
-    ),
-    (
-        0x2ab2a0ef,
-        Insn::Jal {
-            rd: Reg(1),
-            offset: 174762,
-        },
-    ),
-    (
-        0x00008067,
-        Insn::Jalr {
-            rd: Reg(0),
-            base: Reg(1),
-            offset: 0,
-        },
-    ),
-    (
-        0x7fff80e7,
-        Insn::Jalr {
-            rd: Reg(1),
-            base: Reg(31),
-            offset: 2047,
-        },
-    ),
-    (
-        0x80010fe7,
-        Insn::Jalr {
-            rd: Reg(31),
-            base: Reg(2),
-            offset: -2048,
-        },
-    ),
-    (
-        0xfff302e7,
-        Insn::Jalr {
-            rd: Reg(5),
-            base: Reg(6),
-            offset: -1,
-        },
-    ),
-    (
-        0x004500e7,
-        Insn::Jalr {
-            rd: Reg(1),
-            base: Reg(10),
-            offset: 4,
-        },
-    ),
+const AUIPC: [(u32, u8, i32); 6] = [
+    (0x00000017, 0, 0),
+    (0x00001097, 1, 4096),
+    (0x7ffff297, 5, 2147479552),
+    (0x80000f97, 31, -2147483648),
+    (0xfffff517, 10, -4096),
+    (0x12345897, 17, 305418240),
 ];
 
-const BRANCHES: [(u32, Insn); 12] = [
-    (
-        0x7e040fe3,
-        Insn::Branch {
-            test: Test::Eq,
-            left: Reg(8),
-            right: Reg(0),
-            offset: 4094,
-        },
-    ),
-    (
-        0x801f8063,
-        Insn::Branch {
-            test: Test::Eq,
-            left: Reg(31),
-            right: Reg(1),
-            offset: -4096,
-        },
-    ),
-    (
-        0xfe1f9fe3,
-        Insn::Branch {
-            test: Test::Ne,
-            left: Reg(31),
-            right: Reg(1),
-            offset: -2,
-        },
-    ),
-    (
-        0x01e29163,
-        Insn::Branch {
-            test: Test::Ne,
-            left: Reg(5),
-            right: Reg(30),
-            offset: 2,
-        },
-    ),
-    (
-        0x01e2c0e3,
-        Insn::Branch {
-            test: Test::Lt,
-            left: Reg(5),
-            right: Reg(30),
-            offset: 2048,
-        },
-    ),
-    (
-        0x800440e3,
-        Insn::Branch {
-            test: Test::Lt,
-            left: Reg(8),
-            right: Reg(0),
-            offset: -2048,
-        },
-    ),
-    (
-        0x40045063,
-        Insn::Branch {
-            test: Test::Ge,
-            left: Reg(8),
-            right: Reg(0),
-            offset: 1024,
-        },
-    ),
-    (
-        0xfe1fd1e3,
-        Insn::Branch {
-            test: Test::Ge,
-            left: Reg(31),
-            right: Reg(1),
-            offset: -30,
-        },
-    ),
-    (
-        0x801fe063,
-        Insn::Branch {
-            test: Test::Ltu,
-            left: Reg(31),
-            right: Reg(1),
-            offset: -4096,
-        },
-    ),
-    (
-        0x55e2eb63,
-        Insn::Branch {
-            test: Test::Ltu,
-            left: Reg(5),
-            right: Reg(30),
-            offset: 1366,
-        },
-    ),
-    (
-        0x01e2f863,
-        Insn::Branch {
-            test: Test::Geu,
-            left: Reg(5),
-            right: Reg(30),
-            offset: 16,
-        },
-    ),
-    (
-        0x7e047fe3,
-        Insn::Branch {
-            test: Test::Geu,
-            left: Reg(8),
-            right: Reg(0),
-            offset: 4094,
-        },
-    ),
+const JAL: [(u32, u8, i32); 10] = [
+    (0x0000006f, 0, 0),
+    (0x002000ef, 1, 2),
+    (0xffffffef, 31, -2),
+    (0x7ffff2ef, 5, 1048574),
+    (0x8000036f, 6, -1048576),
+    (0x001000ef, 1, 2048),
+    (0x000010ef, 1, 4096),
+    (0x800ff3ef, 7, -4096),
+    (0x400000ef, 1, 1024),
+    (0x2ab2a0ef, 1, 174762),
 ];
 
-const LOADS: [(u32, Insn); 14] = [
-    (
-        0x7ff28303,
-        Insn::Load {
-            width: Width::B1,
-            signed: true,
-            rd: Reg(6),
-            base: Reg(5),
-            offset: 2047,
-        },
-    ),
-    (
-        0x80000f83,
-        Insn::Load {
-            width: Width::B1,
-            signed: true,
-            rd: Reg(31),
-            base: Reg(0),
-            offset: -2048,
-        },
-    ),
-    (
-        0xfff01f83,
-        Insn::Load {
-            width: Width::B2,
-            signed: true,
-            rd: Reg(31),
-            base: Reg(0),
-            offset: -1,
-        },
-    ),
-    (
-        0x000f9083,
-        Insn::Load {
-            width: Width::B2,
-            signed: true,
-            rd: Reg(1),
-            base: Reg(31),
-            offset: 0,
-        },
-    ),
-    (
-        0x008fa083,
-        Insn::Load {
-            width: Width::B4,
-            signed: true,
-            rd: Reg(1),
-            base: Reg(31),
-            offset: 8,
-        },
-    ),
-    (
-        0xff82a303,
-        Insn::Load {
-            width: Width::B4,
-            signed: true,
-            rd: Reg(6),
-            base: Reg(5),
-            offset: -8,
-        },
-    ),
-    (
-        0x7ff2b303,
-        Insn::Load {
-            width: Width::B8,
-            signed: true,
-            rd: Reg(6),
-            base: Reg(5),
-            offset: 2047,
-        },
-    ),
-    (
-        0x80003f83,
-        Insn::Load {
-            width: Width::B8,
-            signed: true,
-            rd: Reg(31),
-            base: Reg(0),
-            offset: -2048,
-        },
-    ),
-    (
-        0xfff04f83,
-        Insn::Load {
-            width: Width::B1,
-            signed: false,
-            rd: Reg(31),
-            base: Reg(0),
-            offset: -1,
-        },
-    ),
-    (
-        0x000fc083,
-        Insn::Load {
-            width: Width::B1,
-            signed: false,
-            rd: Reg(1),
-            base: Reg(31),
-            offset: 0,
-        },
-    ),
-    (
-        0x008fd083,
-        Insn::Load {
-            width: Width::B2,
-            signed: false,
-            rd: Reg(1),
-            base: Reg(31),
-            offset: 8,
-        },
-    ),
-    (
-        0xff82d303,
-        Insn::Load {
-            width: Width::B2,
-            signed: false,
-            rd: Reg(6),
-            base: Reg(5),
-            offset: -8,
-        },
-    ),
-    (
-        0x7ff2e303,
-        Insn::Load {
-            width: Width::B4,
-            signed: false,
-            rd: Reg(6),
-            base: Reg(5),
-            offset: 2047,
-        },
-    ),
-    (
-        0x80006f83,
-        Insn::Load {
-            width: Width::B4,
-            signed: false,
-            rd: Reg(31),
-            base: Reg(0),
-            offset: -2048,
-        },
-    ),
+const JALR: [(u32, u8, u8, i32); 5] = [
+    (0x00008067, 0, 1, 0),
+    (0x7fff80e7, 1, 31, 2047),
+    (0x80010fe7, 31, 2, -2048),
+    (0xfff302e7, 5, 6, -1),
+    (0x004500e7, 1, 10, 4),
 ];
 
-const STORES: [(u32, Insn); 12] = [
-    (
-        0x7e628fa3,
-        Insn::Store {
-            width: Width::B1,
-            base: Reg(5),
-            value: Reg(6),
-            offset: 2047,
-        },
-    ),
-    (
-        0x81f00023,
-        Insn::Store {
-            width: Width::B1,
-            base: Reg(0),
-            value: Reg(31),
-            offset: -2048,
-        },
-    ),
-    (
-        0x001f8023,
-        Insn::Store {
-            width: Width::B1,
-            base: Reg(31),
-            value: Reg(1),
-            offset: 0,
-        },
-    ),
-    (
-        0xfff01fa3,
-        Insn::Store {
-            width: Width::B2,
-            base: Reg(0),
-            value: Reg(31),
-            offset: -1,
-        },
-    ),
-    (
-        0x001f9fa3,
-        Insn::Store {
-            width: Width::B2,
-            base: Reg(31),
-            value: Reg(1),
-            offset: 31,
-        },
-    ),
-    (
-        0x02629023,
-        Insn::Store {
-            width: Width::B2,
-            base: Reg(5),
-            value: Reg(6),
-            offset: 32,
-        },
-    ),
-    (
-        0x001fa423,
-        Insn::Store {
-            width: Width::B4,
-            base: Reg(31),
-            value: Reg(1),
-            offset: 8,
-        },
-    ),
-    (
-        0xfe62ac23,
-        Insn::Store {
-            width: Width::B4,
-            base: Reg(5),
-            value: Reg(6),
-            offset: -8,
-        },
-    ),
-    (
-        0xfff02023,
-        Insn::Store {
-            width: Width::B4,
-            base: Reg(0),
-            value: Reg(31),
-            offset: -32,
-        },
-    ),
-    (
-        0x8062b023,
-        Insn::Store {
-            width: Width::B8,
-            base: Reg(5),
-            value: Reg(6),
-            offset: -2048,
-        },
-    ),
-    (
-        0x7ff03fa3,
-        Insn::Store {
-            width: Width::B8,
-            base: Reg(0),
-            value: Reg(31),
-            offset: 2047,
-        },
-    ),
-    (
-        0x541fbaa3,
-        Insn::Store {
-            width: Width::B8,
-            base: Reg(31),
-            value: Reg(1),
-            offset: 1365,
-        },
-    ),
+const BRANCHES: [(u32, Test, u8, u8, i32); 12] = [
+    (0x7e040fe3, Test::Eq, 8, 0, 4094),
+    (0x801f8063, Test::Eq, 31, 1, -4096),
+    (0xfe1f9fe3, Test::Ne, 31, 1, -2),
+    (0x01e29163, Test::Ne, 5, 30, 2),
+    (0x01e2c0e3, Test::Lt, 5, 30, 2048),
+    (0x800440e3, Test::Lt, 8, 0, -2048),
+    (0x40045063, Test::Ge, 8, 0, 1024),
+    (0xfe1fd1e3, Test::Ge, 31, 1, -30),
+    (0x801fe063, Test::Ltu, 31, 1, -4096),
+    (0x55e2eb63, Test::Ltu, 5, 30, 1366),
+    (0x01e2f863, Test::Geu, 5, 30, 16),
+    (0x7e047fe3, Test::Geu, 8, 0, 4094),
 ];
 
-const IMMEDIATES: [(u32, Insn); 16] = [
-    (
-        0x7ff28313,
-        Insn::Imm {
-            op: ImmOp::Add,
-            rd: Reg(6),
-            left: Reg(5),
-            imm: 2047,
-        },
-    ),
-    (
-        0x80000f93,
-        Insn::Imm {
-            op: ImmOp::Add,
-            rd: Reg(31),
-            left: Reg(0),
-            imm: -2048,
-        },
-    ),
-    (
-        0xfff02f93,
-        Insn::Imm {
-            op: ImmOp::Slt,
-            rd: Reg(31),
-            left: Reg(0),
-            imm: -1,
-        },
-    ),
-    (
-        0x001fa093,
-        Insn::Imm {
-            op: ImmOp::Slt,
-            rd: Reg(1),
-            left: Reg(31),
-            imm: 1,
-        },
-    ),
-    (
-        0x800fb093,
-        Insn::Imm {
-            op: ImmOp::Sltu,
-            rd: Reg(1),
-            left: Reg(31),
-            imm: -2048,
-        },
-    ),
-    (
-        0x7ff2b313,
-        Insn::Imm {
-            op: ImmOp::Sltu,
-            rd: Reg(6),
-            left: Reg(5),
-            imm: 2047,
-        },
-    ),
-    (
-        0x7ff2c313,
-        Insn::Imm {
-            op: ImmOp::Xor,
-            rd: Reg(6),
-            left: Reg(5),
-            imm: 2047,
-        },
-    ),
-    (
-        0x80004f93,
-        Insn::Imm {
-            op: ImmOp::Xor,
-            rd: Reg(31),
-            left: Reg(0),
-            imm: -2048,
-        },
-    ),
-    (
-        0xfff06f93,
-        Insn::Imm {
-            op: ImmOp::Or,
-            rd: Reg(31),
-            left: Reg(0),
-            imm: -1,
-        },
-    ),
-    (
-        0x001fe093,
-        Insn::Imm {
-            op: ImmOp::Or,
-            rd: Reg(1),
-            left: Reg(31),
-            imm: 1,
-        },
-    ),
-    (
-        0x800ff093,
-        Insn::Imm {
-            op: ImmOp::And,
-            rd: Reg(1),
-            left: Reg(31),
-            imm: -2048,
-        },
-    ),
-    (
-        0x7ff2f313,
-        Insn::Imm {
-            op: ImmOp::And,
-            rd: Reg(6),
-            left: Reg(5),
-            imm: 2047,
-        },
-    ),
-    (
-        0x00000013,
-        Insn::Imm {
-            op: ImmOp::Add,
-            rd: Reg(0),
-            left: Reg(0),
-            imm: 0,
-        },
-    ),
-    (
-        0x7ff2831b,
-        Insn::AddiW {
-            rd: Reg(6),
-            left: Reg(5),
-            imm: 2047,
-        },
-    ),
-    (
-        0x80000f9b,
-        Insn::AddiW {
-            rd: Reg(31),
-            left: Reg(0),
-            imm: -2048,
-        },
-    ),
-    (
-        0xffff809b,
-        Insn::AddiW {
-            rd: Reg(1),
-            left: Reg(31),
-            imm: -1,
-        },
-    ),
+const LOADS: [(u32, Width, bool, u8, u8, i32); 14] = [
+    (0x7ff28303, Width::B1, true, 6, 5, 2047),
+    (0x80000f83, Width::B1, true, 31, 0, -2048),
+    (0xfff01f83, Width::B2, true, 31, 0, -1),
+    (0x000f9083, Width::B2, true, 1, 31, 0),
+    (0x008fa083, Width::B4, true, 1, 31, 8),
+    (0xff82a303, Width::B4, true, 6, 5, -8),
+    (0x7ff2b303, Width::B8, true, 6, 5, 2047),
+    (0x80003f83, Width::B8, true, 31, 0, -2048),
+    (0xfff04f83, Width::B1, false, 31, 0, -1),
+    (0x000fc083, Width::B1, false, 1, 31, 0),
+    (0x008fd083, Width::B2, false, 1, 31, 8),
+    (0xff82d303, Width::B2, false, 6, 5, -8),
+    (0x7ff2e303, Width::B4, false, 6, 5, 2047),
+    (0x80006f83, Width::B4, false, 31, 0, -2048),
 ];
 
-const SHIFTS: [(u32, Insn); 21] = [
-    (
-        0x00029313,
-        Insn::Shift {
-            op: ShiftOp::Left,
-            rd: Reg(6),
-            left: Reg(5),
-            amount: 0,
-        },
-    ),
-    (
-        0x01f01f93,
-        Insn::Shift {
-            op: ShiftOp::Left,
-            rd: Reg(31),
-            left: Reg(0),
-            amount: 31,
-        },
-    ),
-    (
-        0x020f9093,
-        Insn::Shift {
-            op: ShiftOp::Left,
-            rd: Reg(1),
-            left: Reg(31),
-            amount: 32,
-        },
-    ),
-    (
-        0x03f29313,
-        Insn::Shift {
-            op: ShiftOp::Left,
-            rd: Reg(6),
-            left: Reg(5),
-            amount: 63,
-        },
-    ),
-    (
-        0x0004139b,
-        Insn::ShiftW {
-            op: ShiftOp::Left,
-            rd: Reg(7),
-            left: Reg(8),
-            amount: 0,
-        },
-    ),
-    (
-        0x00101f9b,
-        Insn::ShiftW {
-            op: ShiftOp::Left,
-            rd: Reg(31),
-            left: Reg(0),
-            amount: 1,
-        },
-    ),
-    (
-        0x01ff909b,
-        Insn::ShiftW {
-            op: ShiftOp::Left,
-            rd: Reg(1),
-            left: Reg(31),
-            amount: 31,
-        },
-    ),
-    (
-        0x00005f93,
-        Insn::Shift {
-            op: ShiftOp::Right,
-            rd: Reg(31),
-            left: Reg(0),
-            amount: 0,
-        },
-    ),
-    (
-        0x01ffd093,
-        Insn::Shift {
-            op: ShiftOp::Right,
-            rd: Reg(1),
-            left: Reg(31),
-            amount: 31,
-        },
-    ),
-    (
-        0x0202d313,
-        Insn::Shift {
-            op: ShiftOp::Right,
-            rd: Reg(6),
-            left: Reg(5),
-            amount: 32,
-        },
-    ),
-    (
-        0x03f05f93,
-        Insn::Shift {
-            op: ShiftOp::Right,
-            rd: Reg(31),
-            left: Reg(0),
-            amount: 63,
-        },
-    ),
-    (
-        0x00005f9b,
-        Insn::ShiftW {
-            op: ShiftOp::Right,
-            rd: Reg(31),
-            left: Reg(0),
-            amount: 0,
-        },
-    ),
-    (
-        0x001fd09b,
-        Insn::ShiftW {
-            op: ShiftOp::Right,
-            rd: Reg(1),
-            left: Reg(31),
-            amount: 1,
-        },
-    ),
-    (
-        0x01f4539b,
-        Insn::ShiftW {
-            op: ShiftOp::Right,
-            rd: Reg(7),
-            left: Reg(8),
-            amount: 31,
-        },
-    ),
-    (
-        0x400fd093,
-        Insn::Shift {
-            op: ShiftOp::RightSigned,
-            rd: Reg(1),
-            left: Reg(31),
-            amount: 0,
-        },
-    ),
-    (
-        0x41f2d313,
-        Insn::Shift {
-            op: ShiftOp::RightSigned,
-            rd: Reg(6),
-            left: Reg(5),
-            amount: 31,
-        },
-    ),
-    (
-        0x42005f93,
-        Insn::Shift {
-            op: ShiftOp::RightSigned,
-            rd: Reg(31),
-            left: Reg(0),
-            amount: 32,
-        },
-    ),
-    (
-        0x43ffd093,
-        Insn::Shift {
-            op: ShiftOp::RightSigned,
-            rd: Reg(1),
-            left: Reg(31),
-            amount: 63,
-        },
-    ),
-    (
-        0x400fd09b,
-        Insn::ShiftW {
-            op: ShiftOp::RightSigned,
-            rd: Reg(1),
-            left: Reg(31),
-            amount: 0,
-        },
-    ),
-    (
-        0x4014539b,
-        Insn::ShiftW {
-            op: ShiftOp::RightSigned,
-            rd: Reg(7),
-            left: Reg(8),
-            amount: 1,
-        },
-    ),
-    (
-        0x41f05f9b,
-        Insn::ShiftW {
-            op: ShiftOp::RightSigned,
-            rd: Reg(31),
-            left: Reg(0),
-            amount: 31,
-        },
-    ),
+const STORES: [(u32, Width, u8, u8, i32); 12] = [
+    (0x7e628fa3, Width::B1, 5, 6, 2047),
+    (0x81f00023, Width::B1, 0, 31, -2048),
+    (0x001f8023, Width::B1, 31, 1, 0),
+    (0xfff01fa3, Width::B2, 0, 31, -1),
+    (0x001f9fa3, Width::B2, 31, 1, 31),
+    (0x02629023, Width::B2, 5, 6, 32),
+    (0x001fa423, Width::B4, 31, 1, 8),
+    (0xfe62ac23, Width::B4, 5, 6, -8),
+    (0xfff02023, Width::B4, 0, 31, -32),
+    (0x8062b023, Width::B8, 5, 6, -2048),
+    (0x7ff03fa3, Width::B8, 0, 31, 2047),
+    (0x541fbaa3, Width::B8, 31, 1, 1365),
 ];
 
-const REGISTERS: [(u32, Insn); 15] = [
-    (
-        0x01f28333,
-        Insn::Reg2 {
-            op: Op::Add,
-            rd: Reg(6),
-            left: Reg(5),
-            right: Reg(31),
-        },
-    ),
-    (
-        0x40100fb3,
-        Insn::Reg2 {
-            op: Op::Sub,
-            rd: Reg(31),
-            left: Reg(0),
-            right: Reg(1),
-        },
-    ),
-    (
-        0x000f90b3,
-        Insn::Reg2 {
-            op: Op::Sll,
-            rd: Reg(1),
-            left: Reg(31),
-            right: Reg(0),
-        },
-    ),
-    (
-        0x00c5a533,
-        Insn::Reg2 {
-            op: Op::Slt,
-            rd: Reg(10),
-            left: Reg(11),
-            right: Reg(12),
-        },
-    ),
-    (
-        0x01f2b333,
-        Insn::Reg2 {
-            op: Op::Sltu,
-            rd: Reg(6),
-            left: Reg(5),
-            right: Reg(31),
-        },
-    ),
-    (
-        0x00104fb3,
-        Insn::Reg2 {
-            op: Op::Xor,
-            rd: Reg(31),
-            left: Reg(0),
-            right: Reg(1),
-        },
-    ),
-    (
-        0x000fd0b3,
-        Insn::Reg2 {
-            op: Op::Srl,
-            rd: Reg(1),
-            left: Reg(31),
-            right: Reg(0),
-        },
-    ),
-    (
-        0x40c5d533,
-        Insn::Reg2 {
-            op: Op::Sra,
-            rd: Reg(10),
-            left: Reg(11),
-            right: Reg(12),
-        },
-    ),
-    (
-        0x01f2e333,
-        Insn::Reg2 {
-            op: Op::Or,
-            rd: Reg(6),
-            left: Reg(5),
-            right: Reg(31),
-        },
-    ),
-    (
-        0x00107fb3,
-        Insn::Reg2 {
-            op: Op::And,
-            rd: Reg(31),
-            left: Reg(0),
-            right: Reg(1),
-        },
-    ),
-    (
-        0x01f2833b,
-        Insn::Reg2W {
-            op: WordOp::Add,
-            rd: Reg(6),
-            left: Reg(5),
-            right: Reg(31),
-        },
-    ),
-    (
-        0x40100fbb,
-        Insn::Reg2W {
-            op: WordOp::Sub,
-            rd: Reg(31),
-            left: Reg(0),
-            right: Reg(1),
-        },
-    ),
-    (
-        0x000f90bb,
-        Insn::Reg2W {
-            op: WordOp::Sll,
-            rd: Reg(1),
-            left: Reg(31),
-            right: Reg(0),
-        },
-    ),
-    (
-        0x00c5d53b,
-        Insn::Reg2W {
-            op: WordOp::Srl,
-            rd: Reg(10),
-            left: Reg(11),
-            right: Reg(12),
-        },
-    ),
-    (
-        0x41f2d33b,
-        Insn::Reg2W {
-            op: WordOp::Sra,
-            rd: Reg(6),
-            left: Reg(5),
-            right: Reg(31),
-        },
-    ),
+const IMMEDIATES: [(u32, ImmOp, u8, u8, i32); 13] = [
+    (0x7ff28313, ImmOp::Add, 6, 5, 2047),
+    (0x80000f93, ImmOp::Add, 31, 0, -2048),
+    (0xfff02f93, ImmOp::Slt, 31, 0, -1),
+    (0x001fa093, ImmOp::Slt, 1, 31, 1),
+    (0x800fb093, ImmOp::Sltu, 1, 31, -2048),
+    (0x7ff2b313, ImmOp::Sltu, 6, 5, 2047),
+    (0x7ff2c313, ImmOp::Xor, 6, 5, 2047),
+    (0x80004f93, ImmOp::Xor, 31, 0, -2048),
+    (0xfff06f93, ImmOp::Or, 31, 0, -1),
+    (0x001fe093, ImmOp::Or, 1, 31, 1),
+    (0x800ff093, ImmOp::And, 1, 31, -2048),
+    (0x7ff2f313, ImmOp::And, 6, 5, 2047),
+    (0x00000013, ImmOp::Add, 0, 0, 0),
 ];
 
-const SYSTEM: [(u32, Insn); 18] = [
-    (
-        0x0ff0000f,
-        Insn::Fence {
-            high: 0x0ff,
-            rs1: Reg(0),
-            rd: Reg(0),
-        },
-    ),
-    (
-        0x0330000f,
-        Insn::Fence {
-            high: 0x033,
-            rs1: Reg(0),
-            rd: Reg(0),
-        },
-    ),
-    (
-        0x8330000f,
-        Insn::Fence {
-            high: 0x833,
-            rs1: Reg(0),
-            rd: Reg(0),
-        },
-    ),
-    (
-        0x0140000f,
-        Insn::Fence {
-            high: 0x014,
-            rs1: Reg(0),
-            rd: Reg(0),
-        },
-    ),
-    (
-        0xffff0f8f,
-        Insn::Fence {
-            high: 0xfff,
-            rs1: Reg(30),
-            rd: Reg(31),
-        },
-    ),
+const SHIFTS: [(u32, ShiftOp, u8, u8, u8); 12] = [
+    (0x00029313, ShiftOp::Left, 6, 5, 0),
+    (0x01f01f93, ShiftOp::Left, 31, 0, 31),
+    (0x020f9093, ShiftOp::Left, 1, 31, 32),
+    (0x03f29313, ShiftOp::Left, 6, 5, 63),
+    (0x00005f93, ShiftOp::Right, 31, 0, 0),
+    (0x01ffd093, ShiftOp::Right, 1, 31, 31),
+    (0x0202d313, ShiftOp::Right, 6, 5, 32),
+    (0x03f05f93, ShiftOp::Right, 31, 0, 63),
+    (0x400fd093, ShiftOp::RightSigned, 1, 31, 0),
+    (0x41f2d313, ShiftOp::RightSigned, 6, 5, 31),
+    (0x42005f93, ShiftOp::RightSigned, 31, 0, 32),
+    (0x43ffd093, ShiftOp::RightSigned, 1, 31, 63),
+];
+
+const REGISTERS: [(u32, Op, u8, u8, u8); 10] = [
+    (0x01f28333, Op::Add, 6, 5, 31),
+    (0x40100fb3, Op::Sub, 31, 0, 1),
+    (0x000f90b3, Op::Sll, 1, 31, 0),
+    (0x00c5a533, Op::Slt, 10, 11, 12),
+    (0x01f2b333, Op::Sltu, 6, 5, 31),
+    (0x00104fb3, Op::Xor, 31, 0, 1),
+    (0x000fd0b3, Op::Srl, 1, 31, 0),
+    (0x40c5d533, Op::Sra, 10, 11, 12),
+    (0x01f2e333, Op::Or, 6, 5, 31),
+    (0x00107fb3, Op::And, 31, 0, 1),
+];
+
+const ADDIW: [(u32, u8, u8, i32); 3] = [
+    (0x7ff2831b, 6, 5, 2047),
+    (0x80000f9b, 31, 0, -2048),
+    (0xffff809b, 1, 31, -1),
+];
+
+const WORD_SHIFTS: [(u32, ShiftOp, u8, u8, u8); 9] = [
+    (0x0004139b, ShiftOp::Left, 7, 8, 0),
+    (0x00101f9b, ShiftOp::Left, 31, 0, 1),
+    (0x01ff909b, ShiftOp::Left, 1, 31, 31),
+    (0x00005f9b, ShiftOp::Right, 31, 0, 0),
+    (0x001fd09b, ShiftOp::Right, 1, 31, 1),
+    (0x01f4539b, ShiftOp::Right, 7, 8, 31),
+    (0x400fd09b, ShiftOp::RightSigned, 1, 31, 0),
+    (0x4014539b, ShiftOp::RightSigned, 7, 8, 1),
+    (0x41f05f9b, ShiftOp::RightSigned, 31, 0, 31),
+];
+
+const WORD_REGISTERS: [(u32, WordOp, u8, u8, u8); 5] = [
+    (0x01f2833b, WordOp::Add, 6, 5, 31),
+    (0x40100fbb, WordOp::Sub, 31, 0, 1),
+    (0x000f90bb, WordOp::Sll, 1, 31, 0),
+    (0x00c5d53b, WordOp::Srl, 10, 11, 12),
+    (0x41f2d33b, WordOp::Sra, 6, 5, 31),
+];
+
+const FENCE: [(u32, u16, u8, u8); 5] = [
+    (0x0ff0000f, 0x0ff, 0, 0),
+    (0x0330000f, 0x033, 0, 0),
+    (0x8330000f, 0x833, 0, 0),
+    (0x0140000f, 0x014, 0, 0),
+    (0xffff0f8f, 0xfff, 30, 31),
+];
+
+const CSR: [(u32, CsrOp, u16, CsrFrom, u8); 7] = [
     (
         0x10529073,
-        Insn::Csr {
-            op: CsrOp::Write,
-            number: 0x105,
-            from: CsrFrom::Register(Reg(5)),
-            rd: Reg(0),
-        },
+        CsrOp::Write,
+        0x105,
+        CsrFrom::Register(Reg(5)),
+        0,
     ),
     (
         0x180312f3,
-        Insn::Csr {
-            op: CsrOp::Write,
-            number: 0x180,
-            from: CsrFrom::Register(Reg(6)),
-            rd: Reg(5),
-        },
+        CsrOp::Write,
+        0x180,
+        CsrFrom::Register(Reg(6)),
+        5,
     ),
-    (
-        0xc0102573,
-        Insn::Csr {
-            op: CsrOp::Set,
-            number: 0xc01,
-            from: CsrFrom::Register(Reg(0)),
-            rd: Reg(10),
-        },
-    ),
+    (0xc0102573, CsrOp::Set, 0xc01, CsrFrom::Register(Reg(0)), 10),
     (
         0xffffbff3,
-        Insn::Csr {
-            op: CsrOp::Clear,
-            number: 0xfff,
-            from: CsrFrom::Register(Reg(31)),
-            rd: Reg(31),
-        },
+        CsrOp::Clear,
+        0xfff,
+        CsrFrom::Register(Reg(31)),
+        31,
     ),
-    (
-        0x144fd0f3,
-        Insn::Csr {
-            op: CsrOp::Write,
-            number: 0x144,
-            from: CsrFrom::Number(31),
-            rd: Reg(1),
-        },
-    ),
-    (
-        0x10016073,
-        Insn::Csr {
-            op: CsrOp::Set,
-            number: 0x100,
-            from: CsrFrom::Number(2),
-            rd: Reg(0),
-        },
-    ),
-    (
-        0x00007ff3,
-        Insn::Csr {
-            op: CsrOp::Clear,
-            number: 0x000,
-            from: CsrFrom::Number(0),
-            rd: Reg(31),
-        },
-    ),
+    (0x144fd0f3, CsrOp::Write, 0x144, CsrFrom::Number(31), 1),
+    (0x10016073, CsrOp::Set, 0x100, CsrFrom::Number(2), 0),
+    (0x00007ff3, CsrOp::Clear, 0x000, CsrFrom::Number(0), 31),
+];
+
+const ENVIRONMENT: [(u32, Insn); 6] = [
     (0x00000073, Insn::Ecall),
     (0x00100073, Insn::Ebreak),
     (0x10200073, Insn::Sret),
@@ -1154,60 +216,60 @@ const SYSTEM: [(u32, Insn); 18] = [
     ),
 ];
 
-const SECURE: [(u32, Insn); 9] = [
+const SECURE: [(u32, Secure); 9] = [
     (
         0x0002890b,
-        Insn::Bastion(Secure::Launch {
+        Secure::Launch {
             rd: Reg(18),
             at: Reg(5),
-        }),
+        },
     ),
     (
         0x0069138b,
-        Insn::Bastion(Secure::Call {
+        Secure::Call {
             rd: Reg(7),
             id: Reg(18),
             entry: Reg(6),
-        }),
+        },
     ),
-    (0x0000200b, Insn::Bastion(Secure::Ret)),
+    (0x0000200b, Secure::Ret),
     (
         0x0000bf8b,
-        Insn::Bastion(Secure::Evict {
+        Secure::Evict {
             rd: Reg(31),
             id: Reg(1),
-        }),
+        },
     ),
     (
         0x01efc08b,
-        Insn::Bastion(Secure::Ident {
+        Secure::Ident {
             rd: Reg(1),
             id: Reg(31),
             word: Reg(30),
-        }),
+        },
     ),
-    (0x00005f8b, Insn::Bastion(Secure::Caller { rd: Reg(31) })),
+    (0x00005f8b, Secure::Caller { rd: Reg(31) }),
     (
         0x0005e50b,
-        Insn::Bastion(Secure::Offerer {
+        Secure::Offerer {
             rd: Reg(10),
             at: Reg(11),
-        }),
+        },
     ),
     (
         0x000ff60b,
-        Insn::Bastion(Secure::Sget {
+        Secure::Sget {
             rd: Reg(12),
             index: Reg(31),
-        }),
+        },
     ),
     (
         0x03df0f8b,
-        Insn::Bastion(Secure::Sset {
+        Secure::Sset {
             rd: Reg(31),
             index: Reg(30),
             value: Reg(29),
-        }),
+        },
     ),
 ];
 
@@ -1257,72 +319,275 @@ const NONE: [u32; 42] = [
     0x0000002b, // custom-1
 ];
 
-/// The first word of the table that does not decode to its instruction, or that this does not encode to.
-fn first_wrong(table: &[(u32, Insn)]) -> Option<u32> {
-    for (word, insn) in table {
-        match decode(*word) {
-            Some(found) => {
-                if found != *insn || encode(&found) != *word {
-                    return Some(*word);
-                }
-            }
-            None => return Some(*word),
-        }
+/// The word decodes to the instruction, which encodes to the word.
+fn agrees(word: u32, insn: Insn) -> bool {
+    match decode(word) {
+        Some(found) => found == insn && encode(&found) == word,
+        None => false,
     }
-    None
 }
 
 #[test]
-fn upper_agree_with_the_assembler(rt: HostRuntime) {
-    assert_eq!(rt; first_wrong(&UPPER), None);
+fn lui_agrees_with_the_assembler(rt: HostRuntime) {
+    for (word, rd, imm) in LUI {
+        assert!(rt; agrees(word, Insn::Lui { rd: Reg(rd), imm }), "at {word}");
+    }
 }
 
 #[test]
-fn jumps_agree_with_the_assembler(rt: HostRuntime) {
-    assert_eq!(rt; first_wrong(&JUMPS), None);
+fn auipc_agrees_with_the_assembler(rt: HostRuntime) {
+    for (word, rd, imm) in AUIPC {
+        assert!(rt; agrees(word, Insn::Auipc { rd: Reg(rd), imm }), "at {word}");
+    }
+}
+
+#[test]
+fn jal_agrees_with_the_assembler(rt: HostRuntime) {
+    for (word, rd, offset) in JAL {
+        assert!(rt;
+            agrees(
+                word,
+                Insn::Jal {
+                    rd: Reg(rd),
+                    offset
+                }
+            ),
+            "at {word}"
+        );
+    }
+}
+
+#[test]
+fn jalr_agrees_with_the_assembler(rt: HostRuntime) {
+    for (word, rd, base, offset) in JALR {
+        assert!(rt;
+            agrees(
+                word,
+                Insn::Jalr {
+                    rd: Reg(rd),
+                    base: Reg(base),
+                    offset
+                }
+            ),
+            "at {word}"
+        );
+    }
 }
 
 #[test]
 fn branches_agree_with_the_assembler(rt: HostRuntime) {
-    assert_eq!(rt; first_wrong(&BRANCHES), None);
+    for (word, test, left, right, offset) in BRANCHES {
+        assert!(rt;
+            agrees(
+                word,
+                Insn::Branch {
+                    test,
+                    left: Reg(left),
+                    right: Reg(right),
+                    offset
+                }
+            ),
+            "at {word}"
+        );
+    }
 }
 
 #[test]
 fn loads_agree_with_the_assembler(rt: HostRuntime) {
-    assert_eq!(rt; first_wrong(&LOADS), None);
+    for (word, width, signed, rd, base, offset) in LOADS {
+        assert!(rt;
+            agrees(
+                word,
+                Insn::Load {
+                    width,
+                    signed,
+                    rd: Reg(rd),
+                    base: Reg(base),
+                    offset
+                }
+            ),
+            "at {word}"
+        );
+    }
 }
 
 #[test]
 fn stores_agree_with_the_assembler(rt: HostRuntime) {
-    assert_eq!(rt; first_wrong(&STORES), None);
+    for (word, width, base, value, offset) in STORES {
+        assert!(rt;
+            agrees(
+                word,
+                Insn::Store {
+                    width,
+                    base: Reg(base),
+                    value: Reg(value),
+                    offset
+                }
+            ),
+            "at {word}"
+        );
+    }
 }
 
 #[test]
 fn immediates_agree_with_the_assembler(rt: HostRuntime) {
-    assert_eq!(rt; first_wrong(&IMMEDIATES), None);
+    for (word, op, rd, left, imm) in IMMEDIATES {
+        assert!(rt;
+            agrees(
+                word,
+                Insn::Imm {
+                    op,
+                    rd: Reg(rd),
+                    left: Reg(left),
+                    imm
+                }
+            ),
+            "at {word}"
+        );
+    }
 }
 
 #[test]
 fn shifts_agree_with_the_assembler(rt: HostRuntime) {
-    assert_eq!(rt; first_wrong(&SHIFTS), None);
+    for (word, op, rd, left, amount) in SHIFTS {
+        assert!(rt;
+            agrees(
+                word,
+                Insn::Shift {
+                    op,
+                    rd: Reg(rd),
+                    left: Reg(left),
+                    amount
+                }
+            ),
+            "at {word}"
+        );
+    }
 }
 
 #[test]
 fn registers_agree_with_the_assembler(rt: HostRuntime) {
-    assert_eq!(rt; first_wrong(&REGISTERS), None);
+    for (word, op, rd, left, right) in REGISTERS {
+        assert!(rt;
+            agrees(
+                word,
+                Insn::Reg2 {
+                    op,
+                    rd: Reg(rd),
+                    left: Reg(left),
+                    right: Reg(right)
+                }
+            ),
+            "at {word}"
+        );
+    }
 }
 
 #[test]
-fn system_agree_with_the_assembler(rt: HostRuntime) {
-    assert_eq!(rt; first_wrong(&SYSTEM), None);
+fn addiw_agrees_with_the_assembler(rt: HostRuntime) {
+    for (word, rd, left, imm) in ADDIW {
+        assert!(rt;
+            agrees(
+                word,
+                Insn::AddiW {
+                    rd: Reg(rd),
+                    left: Reg(left),
+                    imm
+                }
+            ),
+            "at {word}"
+        );
+    }
 }
 
 #[test]
-fn secure_agree_with_the_assembler(rt: HostRuntime) {
-    assert_eq!(rt; first_wrong(&SECURE), None);
+fn word_shifts_agree_with_the_assembler(rt: HostRuntime) {
+    for (word, op, rd, left, amount) in WORD_SHIFTS {
+        assert!(rt;
+            agrees(
+                word,
+                Insn::ShiftW {
+                    op,
+                    rd: Reg(rd),
+                    left: Reg(left),
+                    amount
+                }
+            ),
+            "at {word}"
+        );
+    }
+}
+
+#[test]
+fn word_registers_agree_with_the_assembler(rt: HostRuntime) {
+    for (word, op, rd, left, right) in WORD_REGISTERS {
+        assert!(rt;
+            agrees(
+                word,
+                Insn::Reg2W {
+                    op,
+                    rd: Reg(rd),
+                    left: Reg(left),
+                    right: Reg(right)
+                }
+            ),
+            "at {word}"
+        );
+    }
+}
+
+#[test]
+fn fence_agrees_with_the_assembler(rt: HostRuntime) {
+    for (word, high, rs1, rd) in FENCE {
+        assert!(rt;
+            agrees(
+                word,
+                Insn::Fence {
+                    high,
+                    rs1: Reg(rs1),
+                    rd: Reg(rd)
+                }
+            ),
+            "at {word}"
+        );
+    }
+}
+
+#[test]
+fn csr_agrees_with_the_assembler(rt: HostRuntime) {
+    for (word, op, number, from, rd) in CSR {
+        assert!(rt;
+            agrees(
+                word,
+                Insn::Csr {
+                    op,
+                    number,
+                    from,
+                    rd: Reg(rd)
+                }
+            ),
+            "at {word}"
+        );
+    }
+}
+
+#[test]
+fn environment_agrees_with_the_assembler(rt: HostRuntime) {
+    for (word, insn) in ENVIRONMENT {
+        assert!(rt; agrees(word, insn), "at {word}");
+    }
+}
+
+#[test]
+fn secure_agrees_with_the_assembler(rt: HostRuntime) {
+    for (word, secure) in SECURE {
+        assert!(rt; agrees(word, Insn::Bastion(secure)), "at {word}");
+    }
 }
 
 #[test]
 fn other_words_have_no_instruction(rt: HostRuntime) {
-    assert!(rt; NONE.iter().all(|word| decode(*word).is_none()));
+    for word in NONE {
+        assert!(rt; decode(word).is_none(), "at {word}");
+    }
 }
