@@ -12,7 +12,7 @@ use Rattle.bn_types.specs.declared.test.Test.TheVariants.{Eq, Ne, Lt, Ge, Ltu, G
 use Rattle.bn_types.specs.declared.width.Width.TheVariants.{B1, B2, B4, B8}
 use Rattle.bn_types.specs.declared.word_op.WordOp.TheVariants as word_op
 use Rattle.bn_model.specs.Encoding.{Encodes}
-use Rattle.bn_model.specs.Decoding.{insn_of, jump_by_register, branch, load, store, with_immediate, of_registers, word_with_immediate, word_of_registers, fence, system, environment, secure_of}
+use Rattle.bn_model.specs.Decoding.{insn_of, jalr, branch, load, store, op_imm, op_reg, op_imm_32, op_reg_32, fence, system, environment, secure_of}
 use Rattle.bn_model.specs.Fields.{opcode, rd, funct3, rs1, rs2, funct7}
 
 ecall : insn_of 0x00000073 ≡ Some Ecall
@@ -33,7 +33,7 @@ wfi = refl
 
 -- the instruction that the table relates to a word is that of the definition by opcodes
 pub insn_of-Encodes : (w : ℕ) (i : Insn) → Encodes w i → insn_of w ≡ Some i
-unfolding insn_of jump_by_register branch load store with_immediate of_registers word_with_immediate word_of_registers fence system environment secure_of
+unfolding insn_of jalr branch load store op_imm op_reg op_imm_32 op_reg_32 fence system environment secure_of
 insn_of-Encodes w (Lui rd imm) h = rw (h.opcode, h.rd, h.immediate)
 insn_of-Encodes w (Auipc rd imm) h = rw (h.opcode, h.rd, h.immediate)
 insn_of-Encodes w (Jal rd offset) h = rw (h.opcode, h.rd, h.immediate)

@@ -161,27 +161,27 @@ FormatS-same v w o f a b n p q h k =
     omega arith
 
 b-parts :
-  (a b c d a' b' c' d' : ℕ) →
-  a < 2 → b < 2 → c < 64 → d < 16 → a' < 2 → b' < 2 → c' < 64 → d' < 16 →
-  a * 4096 + b * 2048 + c * 32 + d * 2 ≡ a' * 4096 + b' * 2048 + c' * 32 + d' * 2 →
-  (a ≡ a') × (b ≡ b') × (c ≡ c') × (d ≡ d')
+    (a b c d a' b' c' d' : ℕ) →
+    a < 2 → b < 2 → c < 64 → d < 16 → a' < 2 → b' < 2 → c' < 64 → d' < 16 →
+    a * 4096 + b * 2048 + c * 32 + d * 2 ≡ a' * 4096 + b' * 2048 + c' * 32 + d' * 2 →
+    (a ≡ a') × (b ≡ b') × (c ≡ c') × (d ≡ d')
 b-parts a b c d a' b' c' d' ha hb hc hd ha' hb' hc' hd' e =
     (omega arith, omega arith, omega arith, omega arith)
 
 -- the bits of the register field and of funct7, as format B has them
 b-places :
-  (v w : ℕ) →
-  v < 2 ^ 32 → w < 2 ^ 32 →
-  v / 2 ^ 31 % 2 ≡ w / 2 ^ 31 % 2 →
-  v / 2 ^ 7 % 2 ≡ w / 2 ^ 7 % 2 →
-  v / 2 ^ 25 % 64 ≡ w / 2 ^ 25 % 64 →
-  v / 2 ^ 8 % 16 ≡ w / 2 ^ 8 % 16 →
-  (v / 2 ^ 7 % 32 ≡ w / 2 ^ 7 % 32) × (v / 2 ^ 25 ≡ w / 2 ^ 25)
+    (v w : ℕ) →
+    v < 2 ^ 32 → w < 2 ^ 32 →
+    v / 2 ^ 31 % 2 ≡ w / 2 ^ 31 % 2 →
+    v / 2 ^ 7 % 2 ≡ w / 2 ^ 7 % 2 →
+    v / 2 ^ 25 % 64 ≡ w / 2 ^ 25 % 64 →
+    v / 2 ^ 8 % 16 ≡ w / 2 ^ 8 % 16 →
+    (v / 2 ^ 7 % 32 ≡ w / 2 ^ 7 % 32) × (v / 2 ^ 25 ≡ w / 2 ^ 25)
 b-places v w p q a b c d = (omega arith, omega arith)
 
 b-bits :
-  (v w : ℕ) → v < 2 ^ 32 → w < 2 ^ 32 → b_immediate v ≡ b_immediate w →
-  (v / 2 ^ 7 % 32 ≡ w / 2 ^ 7 % 32) × (v / 2 ^ 25 ≡ w / 2 ^ 25)
+    (v w : ℕ) → v < 2 ^ 32 → w < 2 ^ 32 → b_immediate v ≡ b_immediate w →
+    (v / 2 ^ 7 % 32 ≡ w / 2 ^ 7 % 32) × (v / 2 ^ 25 ≡ w / 2 ^ 25)
 unfolding b_immediate
 b-bits v w p q e =
     let x : ℕ = v / 2 ^ 31 % 2 * 4096 + v / 2 ^ 7 % 2 * 2048 + v / 2 ^ 25 % 64 * 32 + v / 2 ^ 8 % 16 * 2 in
@@ -189,17 +189,17 @@ b-bits v w p q e =
     let x_fits : x < 2 * 4096 = omega arith in
     let y_fits : y < 2 * 4096 = omega arith in
     let parts = b-parts
-                (v / 2 ^ 31 % 2) (v / 2 ^ 7 % 2) (v / 2 ^ 25 % 64) (v / 2 ^ 8 % 16)
-                (w / 2 ^ 31 % 2) (w / 2 ^ 7 % 2) (w / 2 ^ 25 % 64) (w / 2 ^ 8 % 16)
-                (omega arith) (omega arith) (omega arith) (omega arith)
-                (omega arith) (omega arith) (omega arith) (omega arith)
-                (two-same 4096 x y x_fits y_fits e) in
+    (v / 2 ^ 31 % 2) (v / 2 ^ 7 % 2) (v / 2 ^ 25 % 64) (v / 2 ^ 8 % 16)
+    (w / 2 ^ 31 % 2) (w / 2 ^ 7 % 2) (w / 2 ^ 25 % 64) (w / 2 ^ 8 % 16)
+    (omega arith) (omega arith) (omega arith) (omega arith)
+    (omega arith) (omega arith) (omega arith) (omega arith)
+    (two-same 4096 x y x_fits y_fits e) in
     b-places v w p q parts.0 parts.1 parts.2 parts.3
 
 -- format B, from its fields
 b-whole :
-  (v w : ℕ) → opcode v ≡ opcode w → funct3 v ≡ funct3 w → rs1 v ≡ rs1 w → rs2 v ≡ rs2 w →
-  v / 2 ^ 7 % 32 ≡ w / 2 ^ 7 % 32 → v / 2 ^ 25 ≡ w / 2 ^ 25 → v ≡ w
+    (v w : ℕ) → opcode v ≡ opcode w → funct3 v ≡ funct3 w → rs1 v ≡ rs1 w → rs2 v ≡ rs2 w →
+    v / 2 ^ 7 % 32 ≡ w / 2 ^ 7 % 32 → v / 2 ^ 25 ≡ w / 2 ^ 25 → v ≡ w
 unfolding opcode funct3 rs1 rs2
 b-whole v w e_o e_f e_a e_b e_d e_g =
     let a : v / 2 ^ 15 % 32 ≡ w / 2 ^ 15 % 32 = ap (λ (r : Reg). r.0) e_a in
@@ -347,4 +347,3 @@ FormatNumber-sum w o f d a n ho hf hd ha hn e = record {
   rd = register d (w / 2 ^ 7 % 32) (omega arith);
   rs1 = register a (w / 2 ^ 15 % 32) (omega arith);
 }
-

@@ -3,12 +3,12 @@ use Rattle.std.proofs.Common.{◌≡◌, ℕ, arith}
 use Rattle.std.specs.Prelude.{IfSome}
 use Rattle.std.proofs.lemmas.Bool.Decides.{nat_tests}
 use Rattle.bn_model.specs.Encoding.{Encodes}
-use Rattle.bn_model.specs.Decoding.{insn_of, jump_by_register, branch, load, store, with_immediate, of_registers, word_with_immediate, word_of_registers, fence, system, environment, secure_of, secure_by}
+use Rattle.bn_model.specs.Decoding.{insn_of, jalr, branch, load, store, op_imm, op_reg, op_imm_32, op_reg_32, fence, system, environment, secure_of, secure_by}
 use Rattle.bn_model.specs.Fields.{opcode, funct3}
 
-jump_by_register-listed : (w : ℕ) → opcode w ≡ 0b1100111 → IfSome (jump_by_register w) (Encodes w)
-unfolding jump_by_register
-jump_by_register-listed w h = grind (arith, nat_tests)
+jalr-listed : (w : ℕ) → opcode w ≡ 0b1100111 → IfSome (jalr w) (Encodes w)
+unfolding jalr
+jalr-listed w h = grind (arith, nat_tests)
 
 branch-listed : (w : ℕ) → opcode w ≡ 0b1100011 → IfSome (branch w) (Encodes w)
 unfolding branch
@@ -22,21 +22,21 @@ store-listed : (w : ℕ) → opcode w ≡ 0b0100011 → IfSome (store w) (Encode
 unfolding store
 store-listed w h = grind (arith, nat_tests)
 
-with_immediate-listed : (w : ℕ) → opcode w ≡ 0b0010011 → IfSome (with_immediate w) (Encodes w)
-unfolding with_immediate
-with_immediate-listed w h = grind (arith, nat_tests)
+op_imm-listed : (w : ℕ) → opcode w ≡ 0b0010011 → IfSome (op_imm w) (Encodes w)
+unfolding op_imm
+op_imm-listed w h = grind (arith, nat_tests)
 
-of_registers-listed : (w : ℕ) → opcode w ≡ 0b0110011 → IfSome (of_registers w) (Encodes w)
-unfolding of_registers
-of_registers-listed w h = grind (arith, nat_tests)
+op_reg-listed : (w : ℕ) → opcode w ≡ 0b0110011 → IfSome (op_reg w) (Encodes w)
+unfolding op_reg
+op_reg-listed w h = grind (arith, nat_tests)
 
-word_with_immediate-listed : (w : ℕ) → opcode w ≡ 0b0011011 → IfSome (word_with_immediate w) (Encodes w)
-unfolding word_with_immediate
-word_with_immediate-listed w h = grind (arith, nat_tests)
+op_imm_32-listed : (w : ℕ) → opcode w ≡ 0b0011011 → IfSome (op_imm_32 w) (Encodes w)
+unfolding op_imm_32
+op_imm_32-listed w h = grind (arith, nat_tests)
 
-word_of_registers-listed : (w : ℕ) → opcode w ≡ 0b0111011 → IfSome (word_of_registers w) (Encodes w)
-unfolding word_of_registers
-word_of_registers-listed w h = grind (arith, nat_tests)
+op_reg_32-listed : (w : ℕ) → opcode w ≡ 0b0111011 → IfSome (op_reg_32 w) (Encodes w)
+unfolding op_reg_32
+op_reg_32-listed w h = grind (arith, nat_tests)
 
 fence-listed : (w : ℕ) → opcode w ≡ 0b0001111 → IfSome (fence w) (Encodes w)
 unfolding fence
@@ -56,4 +56,4 @@ secure-listed w h = grind (arith, nat_tests)
 
 pub Encodes-insn_of : (w : ℕ) → IfSome (insn_of w) (Encodes w)
 unfolding insn_of
-Encodes-insn_of w = grind (arith, nat_tests, jump_by_register-listed, branch-listed, load-listed, store-listed, with_immediate-listed, of_registers-listed, word_with_immediate-listed, word_of_registers-listed, fence-listed, system-listed, secure-listed)
+Encodes-insn_of w = grind (arith, nat_tests, jalr-listed, branch-listed, load-listed, store-listed, op_imm-listed, op_reg-listed, op_imm_32-listed, op_reg_32-listed, fence-listed, system-listed, secure-listed)

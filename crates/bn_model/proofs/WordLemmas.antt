@@ -1,5 +1,6 @@
 -- The table gives each word one instruction at most, and each instruction in range exactly one word.
-use Rattle.std.proofs.Common.{◌≡◌, ℕ, ◌<◌, ◌^◌, lit<, refl, sym, ◌∙◌, true, false}
+use Rattle.std.proofs.Common.{◌≡◌, ℕ, ◌<◌, ◌^◌, lit<, refl, subst, sym, ◌∙◌, true, false, Option, Some, None}
+use Rattle.std.specs.Prelude.{IfSome, IsNone, ◌↔◌}
 use Rattle.bn_types.specs.declared.csr_from.CsrFrom.TheVariants.{Register, Number}
 use Rattle.bn_types.specs.declared.csr_op.CsrOp.TheVariants as csr_op
 use Rattle.bn_types.specs.declared.imm_op.ImmOp.TheVariants as imm_op
@@ -13,6 +14,9 @@ use Rattle.bn_types.specs.declared.width.Width.TheVariants.{B1, B2, B4, B8}
 use Rattle.bn_types.specs.declared.word_op.WordOp.TheVariants as word_op
 use Rattle.bn_model.specs.Encoding.{Encodes, x0}
 use Rattle.bn_model.specs.InsnRanges.{IsInRange}
+use Rattle.bn_model.specs.Decoding.{insn_of}
+use Rattle.bn_model.proofs.EncodingLemmas.{insn_of-Encodes}
+use Rattle.bn_model.proofs.ListedLemmas.{Encodes-insn_of}
 use Rattle.bn_model.proofs.FieldLemmas.{FormatR-range, FormatI-range, FormatS-range, FormatB-range, FormatU-range, FormatJ-range, FormatShift-range, FormatShiftW-range, FormatNumber-range, FormatR-same, FormatI-same, FormatS-same, FormatB-same, FormatU-same, FormatJ-same, FormatShift-same, FormatShiftW-same, FormatNumber-same}
 use Rattle.bn_model.proofs.FormatLemmas.{FormatR-some, FormatI-some, FormatS-some, FormatB-some, FormatU-some, FormatJ-some, FormatShift-some, FormatShiftW-some, FormatNumber-some}
 
@@ -237,3 +241,42 @@ some_word (Bastion (Caller rd)) r = FormatR-some 0b0001011 0b101 0 rd x0 x0 (lit
 some_word (Bastion (Offerer rd at)) r = FormatR-some 0b0001011 0b110 0 rd at x0 (lit< tt) (lit< tt) (lit< tt) r.0 r.1 (lit< tt)
 some_word (Bastion (Sget rd index)) r = FormatR-some 0b0001011 0b111 0 rd index x0 (lit< tt) (lit< tt) (lit< tt) r.0 r.1 (lit< tt)
 some_word (Bastion (Sset rd index value)) r = FormatR-some 0b0001011 0b000 1 rd index value (lit< tt) (lit< tt) (lit< tt) r.0 r.1 r.2
+
+-- what the definition by opcodes gives is in range
+pub IsInRange-insn_of : (w : ℕ) → IfSome (insn_of w) IsInRange
+IsInRange-insn_of w = by_case (insn_of w) (Encodes-insn_of w)
+  where
+    by_case : (o : Option Insn) → IfSome o (Encodes w) → IfSome o IsInRange
+    by_case None h = tt
+    by_case (Some i) h = IsInRange-Encodes w i h
+
+-- a word has no instruction exactly where the table relates none to it
+pub IsNone-insn_of : (w : ℕ) → IsNone (insn_of w) ↔ ((i : Insn) → ¬ Encodes w i)
+IsNone-insn_of w = (λ n i h. by_some n (insn_of-Encodes w i h), λ f. by_case (insn_of w) (Encodes-insn_of w) f)
+  where
+    by_some : {o : Option Insn} {i : Insn} → IsNone o → o ≡ Some i → ⊥
+    by_some n e = (let m = subst IsNone e n in cc)
+
+    by_case : (o : Option Insn) → IfSome o (Encodes w) → ((i : Insn) → ¬ Encodes w i) → IsNone o
+    by_case None h f = refl
+    by_case (Some i) h f = absurd (f i h)
+
+-- what the definition by opcodes gives is related to the word
+pub Encodes-found : (w : ℕ) (i : Insn) → insn_of w ≡ Some i → Encodes w i
+Encodes-found w i e = subst (λ (o : Option Insn). IfSome o (Encodes w)) e (Encodes-insn_of w)
+
+-- the table relates a word to one instruction at most
+pub one_insn : (w : ℕ) (i j : Insn) → Encodes w i → Encodes w j → i ≡ j
+one_insn w i j h k = some_same (sym (insn_of-Encodes w i h) ∙ insn_of-Encodes w j k)
+  where
+    some_same : {x y : Insn} → Some x ≡ Some y → x ≡ y
+    some_same e = cc
+
+-- and an instruction in range to exactly one word
+pub one_word :
+    (i : Insn) →
+    IsInRange i →
+    (w : ℕ) × (w < 2 ^ 32) × Encodes w i × ((v : ℕ) → v < 2 ^ 32 → Encodes v i → v ≡ w)
+one_word i r =
+    let s = some_word i r in
+    (s.0, s.1, s.2, λ v p h. Encodes-same v s.0 i p s.1 h s.2)

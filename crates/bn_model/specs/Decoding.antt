@@ -28,8 +28,8 @@ abbrev pub is_x0 : Reg → Bool
 is_x0 register = register.0 == 0
 
 -- JALR
-unfoldable pub jump_by_register : ℕ → Option Insn
-jump_by_register w = if funct3 w == 0b000 then Some (insn.Jalr (rd w) (rs1 w) (i_immediate w)) else None
+unfoldable pub jalr : ℕ → Option Insn
+jalr w = if funct3 w == 0b000 then Some (insn.Jalr (rd w) (rs1 w) (i_immediate w)) else None
 
 -- BRANCH
 abbrev pub test_of : ℕ → Option Test
@@ -96,8 +96,8 @@ shift_right w =
     if funct6 w == 0b010000 then Some (shift_of shift_op.RightSigned w) else
     None
 
-unfoldable pub with_immediate : ℕ → Option Insn
-with_immediate w =
+unfoldable pub op_imm : ℕ → Option Insn
+op_imm w =
     if funct3 w == 0b000 then Some (imm_of imm_op.Add w) else
     if funct3 w == 0b001 then shift_left w else
     if funct3 w == 0b010 then Some (imm_of imm_op.Slt w) else
@@ -133,12 +133,12 @@ op_of g f =
     if g == 0b0100000 then other_op_of f else
     None
 
-abbrev pub of_registers_by : Option Op → ℕ → Option Insn
-of_registers_by None w = None
-of_registers_by (Some o) w = Some (insn.Reg2 o (rd w) (rs1 w) (rs2 w))
+abbrev pub op_reg_by : Option Op → ℕ → Option Insn
+op_reg_by None w = None
+op_reg_by (Some o) w = Some (insn.Reg2 o (rd w) (rs1 w) (rs2 w))
 
-unfoldable pub of_registers : ℕ → Option Insn
-of_registers w = of_registers_by (op_of (funct7 w) (funct3 w)) w
+unfoldable pub op_reg : ℕ → Option Insn
+op_reg w = op_reg_by (op_of (funct7 w) (funct3 w)) w
 
 -- OP-IMM-32
 abbrev pub shift_word_of : ShiftOp → ℕ → Insn
@@ -153,8 +153,8 @@ shift_word_right w =
     if funct7 w == 0b0100000 then Some (shift_word_of shift_op.RightSigned w) else
     None
 
-unfoldable pub word_with_immediate : ℕ → Option Insn
-word_with_immediate w =
+unfoldable pub op_imm_32 : ℕ → Option Insn
+op_imm_32 w =
     if funct3 w == 0b000 then Some (insn.AddiW (rd w) (rs1 w) (i_immediate w)) else
     if funct3 w == 0b001 then shift_word_left w else
     if funct3 w == 0b101 then shift_word_right w else
@@ -180,12 +180,12 @@ word_op_of g f =
     if g == 0b0100000 then other_word_op_of f else
     None
 
-abbrev pub word_of_registers_by : Option WordOp → ℕ → Option Insn
-word_of_registers_by None w = None
-word_of_registers_by (Some o) w = Some (insn.Reg2W o (rd w) (rs1 w) (rs2 w))
+abbrev pub op_reg_32_by : Option WordOp → ℕ → Option Insn
+op_reg_32_by None w = None
+op_reg_32_by (Some o) w = Some (insn.Reg2W o (rd w) (rs1 w) (rs2 w))
 
-unfoldable pub word_of_registers : ℕ → Option Insn
-word_of_registers w = word_of_registers_by (word_op_of (funct7 w) (funct3 w)) w
+unfoldable pub op_reg_32 : ℕ → Option Insn
+op_reg_32 w = op_reg_32_by (word_op_of (funct7 w) (funct3 w)) w
 
 -- MISC-MEM
 unfoldable pub fence : ℕ → Option Insn
@@ -275,14 +275,14 @@ insn_of w =
     if opcode w == 0b0110111 then Some (insn.Lui (rd w) (u_immediate w)) else
     if opcode w == 0b0010111 then Some (insn.Auipc (rd w) (u_immediate w)) else
     if opcode w == 0b1101111 then Some (insn.Jal (rd w) (j_immediate w)) else
-    if opcode w == 0b1100111 then jump_by_register w else
+    if opcode w == 0b1100111 then jalr w else
     if opcode w == 0b1100011 then branch w else
     if opcode w == 0b0000011 then load w else
     if opcode w == 0b0100011 then store w else
-    if opcode w == 0b0010011 then with_immediate w else
-    if opcode w == 0b0110011 then of_registers w else
-    if opcode w == 0b0011011 then word_with_immediate w else
-    if opcode w == 0b0111011 then word_of_registers w else
+    if opcode w == 0b0010011 then op_imm w else
+    if opcode w == 0b0110011 then op_reg w else
+    if opcode w == 0b0011011 then op_imm_32 w else
+    if opcode w == 0b0111011 then op_reg_32 w else
     if opcode w == 0b0001111 then fence w else
     if opcode w == 0b1110011 then system w else
     if opcode w == 0b0001011 then secure_by (secure_of w) else

@@ -23,3 +23,4 @@ pub mod TwosComplement
 pub mod Entries
 pub mod WalkLaws
 pub mod Walking
+pub mod TableLaws

@@ -1,47 +1,75 @@
 //! From a word to its instruction.
-ghost use Rattle.std.specs.Prelude.{◌≡◌};
+ghost use Rattle.std.specs.Prelude.{◌≡◌, ◌↔◌, IfSome, IsNone};
+ghost use Rattle.bn_types.specs.declared.insn.Insn.{Insn};
 ghost use Rattle.bn_model.specs.Decoding.{insn_of};
+ghost use Rattle.bn_model.specs.Encoding.{Encodes};
+ghost use Rattle.bn_model.specs.InsnRanges.{IsInRange};
 
-use crate::arithmetic::{of_registers, with_immediate, word_of_registers, word_with_immediate};
-use crate::control::{branch, jump_by_register};
-use crate::fields::{opcode, rd};
-use crate::immediates::{j_immediate, u_immediate};
-use crate::memory::{fence, load, store};
-use crate::secure_words::secure;
-use crate::system::system;
+use crate::decoding::arithmetic::{op_imm, op_imm_32, op_reg, op_reg_32};
+use crate::decoding::control::{branch, jalr};
+use crate::decoding::fields::{opcode, rd};
+use crate::decoding::immediates::{j_immediate, u_immediate};
+use crate::decoding::memory::{fence, load, store};
+use crate::decoding::secure_words::secure;
+use crate::decoding::system::system;
+use crate::opcodes::{
+    AUIPC, BRANCH, CUSTOM_0, JAL, JALR, LOAD, LUI, MISC_MEM, OP, OP_32, OP_IMM, OP_IMM_32, STORE,
+    SYSTEM,
+};
 use bn_types::Insn;
 
-/// The instruction of a word of 32 bits (Unprivileged ISA, "RV32/64G Instruction Set Listings"). None
-/// exactly where the word is no instruction of RV64I, Zicsr, the supervisor level or the secure
-/// extension.
+mod arithmetic;
+mod control;
+mod fields;
+mod immediates;
+mod memory;
+mod secure_words;
+mod system;
+
 #[tactic(auto, unfolding(bn_model::specs::Decoding::insn_of))]
-pub fn decode(word: u32) -> Option<Insn>
-    ensures exact { result ≡ insn_of word }
+fn by_opcode(word: u32) -> Option<Insn>
+    ensures { result ≡ insn_of word }
 {
     match opcode(word) {
-        0b0110111 => Some(Insn::Lui {
+        LUI => Some(Insn::Lui {
             rd: rd(word),
             imm: u_immediate(word),
         }),
-        0b0010111 => Some(Insn::Auipc {
+        AUIPC => Some(Insn::Auipc {
             rd: rd(word),
             imm: u_immediate(word),
         }),
-        0b1101111 => Some(Insn::Jal {
+        JAL => Some(Insn::Jal {
             rd: rd(word),
             offset: j_immediate(word),
         }),
-        0b1100111 => jump_by_register(word),
-        0b1100011 => branch(word),
-        0b0000011 => load(word),
-        0b0100011 => store(word),
-        0b0010011 => with_immediate(word),
-        0b0110011 => of_registers(word),
-        0b0011011 => word_with_immediate(word),
-        0b0111011 => word_of_registers(word),
-        0b0001111 => fence(word),
-        0b1110011 => system(word),
-        0b0001011 => secure(word),
+        JALR => jalr(word),
+        BRANCH => branch(word),
+        LOAD => load(word),
+        STORE => store(word),
+        OP_IMM => op_imm(word),
+        OP => op_reg(word),
+        OP_IMM_32 => op_imm_32(word),
+        OP_32 => op_reg_32(word),
+        MISC_MEM => fence(word),
+        SYSTEM => system(word),
+        CUSTOM_0 => secure(word),
         _ => None,
     }
+}
+
+/// The instruction of a word (Unprivileged ISA, "RV32/64G Instruction Set Listings"; Privileged ISA,
+/// "RISC-V Privileged Instruction Set Listings").
+///
+/// None exactly where the word is no instruction of RV64I, Zicsr, the supervisor level or the secure
+/// extension. Each instruction has one word alone: bits that the manuals reserve must be zero, but those
+/// of FENCE, which are kept in its fields. The fields of the result are in the ranges that `Insn` names.
+pub fn decode(word: u32) -> Option<Insn>
+    ensures exact { result ≡ insn_of word }
+    ensures listed { IfSome result (Encodes word) }
+    ensures in_range { IfSome result IsInRange }
+    ensures complete { (insn : Insn) → Encodes word insn → result ≡ Some insn }
+    ensures unlisted { IsNone result ↔ ((insn : Insn) → ¬ Encodes word insn) }
+{
+    by_opcode(word)
 }

@@ -1,11 +1,9 @@
 //! Loads, stores and FENCE.
-ghost use Rattle.std.specs.Prelude.{◌≡◌, IfSome};
-ghost use Rattle.bn_model.specs.Encoding.{Encodes};
-ghost use Rattle.bn_model.specs.Fields.{opcode};
+ghost use Rattle.std.specs.Prelude.{◌≡◌};
 ghost use Rattle.bn_model.specs.Decoding as decoded;
 
-use crate::fields::{funct3, funct12, rd, rs1, rs2};
-use crate::immediates::{i_immediate, s_immediate};
+use crate::decoding::fields::{funct3, funct12, rd, rs1, rs2};
+use crate::decoding::immediates::{i_immediate, s_immediate};
 use bn_types::{Insn, Width};
 
 fn load_of(width: Width, signed: bool, word: u32) -> Insn
@@ -22,8 +20,7 @@ fn load_of(width: Width, signed: bool, word: u32) -> Insn
 
 #[tactic(auto, unfolding(bn_model::specs::Decoding::load))]
 pub fn load(word: u32) -> Option<Insn>
-    ensures exact { result ≡ decoded.load word }
-    ensures listed { opcode word ≡ 0b0000011 → IfSome result (Encodes word) }
+    ensures { result ≡ decoded.load word }
 {
     match funct3(word) {
         0b000 => Some(load_of(Width::B1, true, word)),

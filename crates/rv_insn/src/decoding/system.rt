@@ -2,13 +2,20 @@
 ghost use Rattle.std.specs.Prelude.{◌≡◌};
 ghost use Rattle.bn_model.specs.Decoding as decoded;
 
-use crate::fields::{funct3, funct7, funct12, is_x0, rd, rs1, rs2};
+use crate::decoding::fields::{funct3, funct7, funct12, is_x0, rd, rs1, rs2};
 use bn_types::{CsrFrom, CsrOp, Insn, Reg};
 
 fn fence_of_tables(word: u32) -> Option<Insn>
     ensures { result ≡ decoded.fence_of_tables word }
 {
-    if is_x0(rd(word)) { Some(Insn::SfenceVma { rs1: rs1(word), rs2: rs2(word) }) } else { None }
+    if is_x0(rd(word)) {
+        Some(Insn::SfenceVma {
+            rs1: rs1(word),
+            rs2: rs2(word),
+        })
+    } else {
+        None
+    }
 }
 
 fn whole_word(word: u32) -> Option<Insn>

@@ -14,6 +14,7 @@ fn signed12(number: u32) -> i32
     }
 }
 
+/// `imm[11:0]` from bits 31:20.
 #[tactic(auto, unfolding(bn_model::specs::Fields::i_immediate))]
 pub fn i_immediate(word: u32) -> i32
     ensures { result ≡ field.i_immediate word }
@@ -21,6 +22,7 @@ pub fn i_immediate(word: u32) -> i32
     signed12(word >> 20)
 }
 
+/// `imm[11:5]` from bits 31:25, `imm[4:0]` from bits 11:7.
 #[tactic(auto, unfolding(bn_model::specs::Fields::s_immediate))]
 pub fn s_immediate(word: u32) -> i32
     ensures { result ≡ field.s_immediate word }
@@ -28,6 +30,7 @@ pub fn s_immediate(word: u32) -> i32
     signed12((word >> 25) * 0x20 + ((word >> 7) & 0x1f))
 }
 
+/// `imm[12]` from bit 31, `imm[11]` from bit 7, `imm[10:5]` from bits 30:25, `imm[4:1]` from bits 11:8.
 #[tactic(auto, unfolding(bn_model::specs::Fields::b_immediate))]
 pub fn b_immediate(word: u32) -> i32
     ensures { result ≡ field.b_immediate word }
@@ -40,6 +43,7 @@ pub fn b_immediate(word: u32) -> i32
     }
 }
 
+/// `imm[31:12]` from bits 31:12; the low 12 bits are 0.
 #[tactic(auto, unfolding(bn_model::specs::Fields::u_immediate))]
 pub fn u_immediate(word: u32) -> i32
     ensures { result ≡ field.u_immediate word }
@@ -53,6 +57,7 @@ pub fn u_immediate(word: u32) -> i32
     upper * 0x1000
 }
 
+/// `imm[20]` from bit 31, `imm[19:12]` from bits 19:12, `imm[11]` from bit 20, `imm[10:1]` from bits 30:21.
 #[tactic(auto, unfolding(bn_model::specs::Fields::j_immediate))]
 pub fn j_immediate(word: u32) -> i32
     ensures { result ≡ field.j_immediate word }

@@ -2,7 +2,7 @@
 ghost use Rattle.std.specs.Prelude.{◌≡◌};
 ghost use Rattle.bn_model.specs.Decoding as decoded;
 
-use crate::fields::{funct3, funct7, is_x0, rd, rs1, rs2};
+use crate::decoding::fields::{funct3, funct7, is_x0, rd, rs1, rs2};
 use bn_types::{Insn, Secure};
 
 fn launch(word: u32) -> Option<Secure>

@@ -2,13 +2,13 @@
 ghost use Rattle.std.specs.Prelude.{◌≡◌};
 ghost use Rattle.bn_model.specs.Decoding as decoded;
 
-use crate::fields::{funct3, rd, rs1, rs2};
-use crate::immediates::{b_immediate, i_immediate};
+use crate::decoding::fields::{funct3, rd, rs1, rs2};
+use crate::decoding::immediates::{b_immediate, i_immediate};
 use bn_types::{Insn, Test};
 
-#[tactic(auto, unfolding(bn_model::specs::Decoding::jump_by_register))]
-pub fn jump_by_register(word: u32) -> Option<Insn>
-    ensures { result ≡ decoded.jump_by_register word }
+#[tactic(auto, unfolding(bn_model::specs::Decoding::jalr))]
+pub fn jalr(word: u32) -> Option<Insn>
+    ensures { result ≡ decoded.jalr word }
 {
     match funct3(word) {
         0b000 => Some(Insn::Jalr {

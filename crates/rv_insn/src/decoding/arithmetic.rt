@@ -2,8 +2,8 @@
 ghost use Rattle.std.specs.Prelude.{◌≡◌};
 ghost use Rattle.bn_model.specs.Decoding as decoded;
 
-use crate::fields::{funct3, funct6, funct7, rd, rs1, rs2, shamt5, shamt6};
-use crate::immediates::i_immediate;
+use crate::decoding::fields::{funct3, funct6, funct7, rd, rs1, rs2, shamt5, shamt6};
+use crate::decoding::immediates::i_immediate;
 use bn_types::{ImmOp, Insn, Op, ShiftOp, WordOp};
 
 fn imm_of(op: ImmOp, word: u32) -> Insn
@@ -47,9 +47,9 @@ fn shift_right(word: u32) -> Option<Insn>
     }
 }
 
-#[tactic(auto, unfolding(bn_model::specs::Decoding::with_immediate))]
-pub fn with_immediate(word: u32) -> Option<Insn>
-    ensures { result ≡ decoded.with_immediate word }
+#[tactic(auto, unfolding(bn_model::specs::Decoding::op_imm))]
+pub fn op_imm(word: u32) -> Option<Insn>
+    ensures { result ≡ decoded.op_imm word }
 {
     match funct3(word) {
         0b000 => Some(imm_of(ImmOp::Add, word)),
@@ -100,9 +100,9 @@ fn op_of(funct7: u32, funct3: u32) -> Option<Op>
     }
 }
 
-#[tactic(auto, unfolding(bn_model::specs::Decoding::of_registers))]
-pub fn of_registers(word: u32) -> Option<Insn>
-    ensures { result ≡ decoded.of_registers word }
+#[tactic(auto, unfolding(bn_model::specs::Decoding::op_reg))]
+pub fn op_reg(word: u32) -> Option<Insn>
+    ensures { result ≡ decoded.op_reg word }
 {
     match op_of(funct7(word), funct3(word)) {
         Some(op) => Some(Insn::Reg2 {
@@ -145,9 +145,9 @@ fn shift_word_right(word: u32) -> Option<Insn>
     }
 }
 
-#[tactic(auto, unfolding(bn_model::specs::Decoding::word_with_immediate))]
-pub fn word_with_immediate(word: u32) -> Option<Insn>
-    ensures { result ≡ decoded.word_with_immediate word }
+#[tactic(auto, unfolding(bn_model::specs::Decoding::op_imm_32))]
+pub fn op_imm_32(word: u32) -> Option<Insn>
+    ensures { result ≡ decoded.op_imm_32 word }
 {
     match funct3(word) {
         0b000 => Some(Insn::AddiW {
@@ -192,9 +192,9 @@ fn word_op_of(funct7: u32, funct3: u32) -> Option<WordOp>
     }
 }
 
-#[tactic(auto, unfolding(bn_model::specs::Decoding::word_of_registers))]
-pub fn word_of_registers(word: u32) -> Option<Insn>
-    ensures { result ≡ decoded.word_of_registers word }
+#[tactic(auto, unfolding(bn_model::specs::Decoding::op_reg_32))]
+pub fn op_reg_32(word: u32) -> Option<Insn>
+    ensures { result ≡ decoded.op_reg_32 word }
 {
     match word_op_of(funct7(word), funct3(word)) {
         Some(op) => Some(Insn::Reg2W {

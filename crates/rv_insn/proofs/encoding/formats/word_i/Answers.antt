@@ -1,0 +1,13 @@
+-- The word is the sum of its fields.
+use Rattle.std.proofs.Common.{arith, w32, FitsSigned}
+use Rattle.std.proofs.lemmas.Int.{to_z-of_z}
+use Rattle.bn_model.proofs.FieldLemmas.{FormatI-sum}
+use Rattle.rv_insn.proofs.encoding.formats.word_i.Goals as goal
+
+pub returns : goal.returns
+returns c =
+    let fits : FitsSigned w32 c.args.immediate = c.ranges.immediate in
+    let same = simp to_z-of_z at c.bits12-bits.ensures.same in
+    FormatI-sum _ c.args.opcode c.args.funct3 c.args.rd c.args.rs1 c.args.immediate c.bits12-bits.result
+    c.requires.opcode_fits c.requires.funct3_fits c.requires.rd_fits c.requires.rs1_fits c.bits12-bits.ensures.fits same
+    (omega arith)
