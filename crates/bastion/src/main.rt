@@ -2,13 +2,12 @@
 //! with the status.
 #![tactic(auto)]
 
+use bn_edge::{FileDesk, OutSink};
+use bn_types::Status;
 use std::alloc::{AllocError, Global};
 use std::env::FillError;
 use std::process::ExitCode;
 use std::rt::{Env, Files};
-
-use bn_edge::{FileDesk, OutSink};
-use bn_types::Status;
 
 fn main(rt: HostRuntime) -> ExitCode {
     ExitCode::from(run(&rt, rt.alloc()).code())

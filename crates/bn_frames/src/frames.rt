@@ -1,6 +1,5 @@
 ghost use Rattle.std.specs.Prelude.{◌≡◌, ◌*◌, ◌%◌, ◌^◌, ◌<◌, length, replicate, slice_set, IfOk};
-ghost use Rattle.bn_types.specs.Numbers.{bytes_of, number_at, with_number, zero_page};
-ghost use Rattle.bn_frames.specs.Frames.{frame_at};
+ghost use Rattle.bn_types.specs.Numbers.{bytes_of, number_at, page_at, with_number, zero_page};
 
 use bn_types::{Frame, NoMemory, Width};
 use std::alloc::Global;
@@ -50,7 +49,7 @@ impl Frames {
         requires frame { frame.0 < length self.now }
         requires aligned { offset % bytes_of width ≡ 0 }
         requires inside { offset < 4096 }
-        ensures number { result ≡ number_at width (frame_at self.now frame.0) offset }
+        ensures number { result ≡ number_at width (page_at self.now frame.0) offset }
         ensures fits { result < 2 ^ (8 * bytes_of width) }
     {
         number_in(&self.pages[frame.0 as usize], offset as usize, width)
@@ -61,7 +60,7 @@ impl Frames {
         requires frame { frame.0 < length self.old }
         requires aligned { offset % bytes_of width ≡ 0 }
         requires inside { offset < 4096 }
-        ensures { let page = with_number width (frame_at self.old frame.0) offset value in
+        ensures { let page = with_number width (page_at self.old frame.0) offset value in
             self.new ≡ slice_set self.old frame.0 page }
     {
         write_number(
@@ -84,7 +83,7 @@ impl Frames {
     pub fn copy_frame(&mut self, from: Frame, to: Frame)
         requires from { from.0 < length self.old }
         requires to { to.0 < length self.old }
-        ensures { self.new ≡ slice_set self.old to.0 (frame_at self.old from.0) }
+        ensures { self.new ≡ slice_set self.old to.0 (page_at self.old from.0) }
     {
         let page = self.pages[from.0 as usize];
         self.pages[to.0 as usize] = page;

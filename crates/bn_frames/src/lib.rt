@@ -4,3 +4,5 @@
 pub use frames::Frames;
 
 mod frames;
+#[cfg(test)]
+mod tests;

@@ -1,16 +1,16 @@
 -- Frames that are filled with bytes, one after another.
-use Rattle.std.proofs.Common.{◌≡◌, ℕ, zero, suc, ◌+◌, ◌-◌, ◌*◌, ◌%◌, ◌^◌, ◌<◌, ◌≤◌, List, [], ◌∷◌, ◌++◌, take, drop, length, get_or, set, map, replicate, refl, sym, ap, ◌∙◌, arith, add-one, add-zero, subst}
-use Rattle.std.specs.List.{range_with_len, concat}
-use Rattle.std.proofs.lemmas.List.{append_assoc, length-append, length-take-le, length-drop, length-set, length-replicate, set-set, get_or-set_same, get_or-drop, get_or-take, get_or-replicate, get_or-append_right, replicate-append-replicate, append-nil}
+use Rattle.std.proofs.Common.{◌≡◌, ℕ, zero, suc, ◌+◌, ◌-◌, ◌*◌, ◌%◌, ◌^◌, ◌<◌, ◌≤◌, List, [], ◌∷◌, ◌++◌, take, drop, length, get_or, set, replicate, refl, sym, ap, ◌∙◌, arith, add-one, subst}
+use Rattle.std.specs.List.{concat}
+use Rattle.std.proofs.lemmas.List.{append_assoc, length-append, length-take-le, length-drop, length-replicate, set-set, get_or-set_same, get_or-drop, get_or-replicate, get_or-append_right, replicate-append-replicate, append-nil}
 use Rattle.std.proofs.lemmas.List.FromFn.{length-map-range_with_len, get_or-map-range_with_len}
 use Rattle.std.proofs.lemmas.List.Folds.{concat-append}
 use Rattle.std.proofs.Math.Seq.{take-suc}
-use Rattle.bn_types.specs.Numbers.{bytes_of, number_at, with_number, zero_page}
+use Rattle.bn_types.specs.Numbers.{number_at, with_number, zero_page}
 use Rattle.bn_types.specs.declared.width.Width.TheVariants.{B1}
 use Rattle.bn_model.proofs.MixedLists.{mixed, mixed_all, set-mixed}
 use Rattle.bn_model.proofs.PageNumbers.{length-zero_page}
 use Rattle.bn_model.specs.Opening.{opening_harts, page_of, pages_of}
-use Rattle.bn_model.specs.State.{Hart, resting_hart}
+use Rattle.bn_model.specs.State.{resting_hart}
 use Rattle.bn_machine.specs.Within.{AreWhole}
 
 set_split_suc : {A : Type 0} (l : List A) (i : ℕ) (a : A) → i < length l → take i l ++ a ∷ drop (suc i) l ≡ set l i a
@@ -37,7 +37,7 @@ number_at-byte page offset =
 pub byte_filled : (pages : List (List ℕ)) (f offset byte : ℕ) (bytes old : List ℕ) → f < length pages → offset < length bytes
     → length bytes ≡ length old → byte < 256 → byte ≡ get_or bytes offset 0
     → set (set pages f (mixed offset bytes old)) f (with_number B1 (get_or (set pages f (mixed offset bytes old)) f []) offset byte)
-      ≡ set pages f (mixed (offset + 1) bytes old)
+    ≡ set pages f (mixed (offset + 1) bytes old)
 byte_filled pages f offset byte bytes old inside below same small e =
     let now = mixed offset bytes old in
     let size : offset < length now = length_mixed in
@@ -45,11 +45,11 @@ byte_filled pages f offset byte bytes old inside below same small e =
     ∙ ap (λ page. set pages f (with_number B1 page offset byte)) (get_or-set_same pages f now [] inside)
     ∙ ap (set pages f) (with_byte now offset byte size small ∙ ap (set now offset) e ∙ set-mixed offset bytes old 0 below same)
   where
-  length_mixed : offset < length (mixed offset bytes old)
-  length_mixed =
-      let front = length-take-le offset bytes (omega arith) in
-      let back = length-drop offset old in
-      omega (arith, length-append (take offset bytes) (drop offset old))
+    length_mixed : offset < length (mixed offset bytes old)
+    length_mixed =
+        let front = length-take-le offset bytes (omega arith) in
+        let back = length-drop offset old in
+        omega (arith, length-append (take offset bytes) (drop offset old))
 
 -- a page that isn't filled yet is as it was
 pub get_or-mixed : {A : Type 0} (i : ℕ) (new old : List A) (d : A) → i ≤ length new → get_or (mixed i new old) i d ≡ get_or old i d

@@ -1,5 +1,6 @@
 pub mod AlignedJumps
 pub mod Filling
+pub mod Numerals
 pub mod Runs
 pub mod Serving
 pub mod Stories

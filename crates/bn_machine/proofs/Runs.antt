@@ -1,11 +1,11 @@
 -- A run on its way.
-use Rattle.std.proofs.Common.{◌≡◌, ◌≢◌, ℕ, suc, zero, ◌+◌, ◌-◌, ◌<◌, Bool, true, false, List, [], ◌∷◌, ◌++◌, Option, Result, Ok, Err, OnErr, length, refl, sym, ap, ◌∙◌, subst, arith, add-one}
+use Rattle.std.proofs.Common.{◌≡◌, ℕ, suc, ◌+◌, ◌-◌, ◌<◌, Bool, true, false, List, [], ◌∷◌, ◌++◌, Option, Result, Ok, Err, OnErr, length, refl, sym, ap, ◌∙◌, subst, arith, add-one}
 use Rattle.std.proofs.lemmas.List.{append_assoc, append-nil}
 use Rattle.std.proofs.lemmas.List.Concat.{flat_map-append}
 use Rattle.bn_edge.specs.Written.{appended, WritesFront}
 use Rattle.bn_types.specs.declared.ending.Ending.TheVariants.{Shutdown, Limit, Unbuilt}
 use Rattle.bn_types.specs.declared.event.Event.TheVariants.{Turn}
-use Rattle.bn_model.specs.Running.{Course, StopsWithin, course, turns, state_after, text_after}
+use Rattle.bn_model.specs.Running.{Course, course, turns, state_after, text_after}
 use Rattle.bn_model.specs.Spelling.{spelling, text_of}
 use Rattle.bn_model.specs.State.{State}
 use Rattle.bn_model.specs.Stepping.{step, lines, is_built_event}
@@ -55,12 +55,12 @@ module _ (start now : State) (limit made : ℕ) (old written : Option (List ℕ)
 
   after_built : is_built_event now (Turn 0) ≡ true
       → course now (turns (limit - made))
-        ≡ (let rest = course (turn now) (turns (limit - (made + 1))) in record rest { told = lines now (Turn 0) ++ rest.told })
+      ≡ (let rest = course (turn now) (turns (limit - (made + 1))) in record rest { told = lines now (Turn 0) ++ rest.told })
   after_built built = ap (λ n. course now (turns n)) left ∙ course_built now (limit - (made + 1)) run.on built
 
   text_left : is_built_event now (Turn 0) ≡ true
       → text_of (course now (turns (limit - made))).told
-        ≡ turn_text now ++ text_of (course (turn now) (turns (limit - (made + 1)))).told
+      ≡ turn_text now ++ text_of (course (turn now) (turns (limit - (made + 1)))).told
   text_left built =
       ap (λ (c : Course). text_of c.told) (after_built built)
       ∙ flat_map-append spelling (lines now (Turn 0)) (course (turn now) (turns (limit - (made + 1)))).told
@@ -85,8 +85,8 @@ module _ (start now : State) (limit made : ℕ) (old written : Option (List ℕ)
     ending = run.ending ∙ ap (λ (c : Course). c.ending) (after_built built);
     last = run.last ∙ ap (λ (c : Course). c.last) (after_built built);
     text = run.text ∙ ap (λ t. text_after made start ++ t) (text_left built)
-      ∙ sym (append_assoc (text_after made start) (turn_text now) _)
-      ∙ ap (λ t. t ++ text_of (course (turn now) (turns (limit - (made + 1)))).told) text_more;
+        ∙ sym (append_assoc (text_after made start) (turn_text now) _)
+        ∙ ap (λ t. t ++ text_of (course (turn now) (turns (limit - (made + 1)))).told) text_more;
   }
 
   -- it shut the machine down
@@ -95,7 +95,7 @@ module _ (start now : State) (limit made : ℕ) (old written : Option (List ℕ)
   finished_off later built off e =
       let rest = course_off (turn now) (turns (limit - (made + 1))) off in
       let total : text_of (course start (turns limit)).told ≡ text_after made start ++ turn_text now =
-        run.text ∙ ap (λ t. text_after made start ++ t) (text_left built ∙ ap (λ (c : Course). turn_text now ++ text_of c.told) rest ∙ append-nil (turn_text now)) in
+      run.text ∙ ap (λ t. text_after made start ++ t) (text_left built ∙ ap (λ (c : Course). turn_text now ++ text_of c.told) rest ∙ append-nil (turn_text now)) in
       record {
         ending = sym (run.ending ∙ ap (λ (c : Course). c.ending) (after_built built) ∙ ap (λ (c : Course). c.ending) rest);
         last = sym (run.last ∙ ap (λ (c : Course). c.last) (after_built built) ∙ ap (λ (c : Course). c.last) rest);
@@ -108,7 +108,7 @@ module _ (start now : State) (limit made : ℕ) (old written : Option (List ℕ)
   finished_unbuilt built =
       let rest = ap (λ n. course now (turns n)) left ∙ course_unbuilt now (limit - (made + 1)) run.on built in
       let total : text_of (course start (turns limit)).told ≡ text_after made start =
-        run.text ∙ ap (λ (c : Course). text_after made start ++ text_of c.told) rest ∙ append-nil (text_after made start) in
+      run.text ∙ ap (λ (c : Course). text_after made start ++ text_of c.told) rest ∙ append-nil (text_after made start) in
       record {
         ending = sym (run.ending ∙ ap (λ (c : Course). c.ending) rest);
         last = unbuilt_step now (Turn 0) built ∙ sym (run.last ∙ ap (λ (c : Course). c.last) rest);
@@ -140,8 +140,8 @@ module _ (start now : State) (limit made : ℕ) (old written : Option (List ℕ)
     front = text_after made start ++ w.front;
     rest = w.rest ++ text_of (course (turn now) (turns (limit - (made + 1)))).told;
     split = append_assoc (text_after made start) w.front _
-      ∙ ap (λ t. text_after made start ++ t) (sym (append_assoc w.front w.rest _) ∙ ap (λ t. t ++ text_of (course (turn now) (turns (limit - (made + 1)))).told) w.split ∙ sym (text_left built))
-      ∙ sym run.text;
+        ∙ ap (λ t. text_after made start ++ t) (sym (append_assoc w.front w.rest _) ∙ ap (λ t. t ++ text_of (course (turn now) (turns (limit - (made + 1)))).told) w.split ∙ sym (text_left built))
+        ∙ sym run.text;
     proper = λ e. w.proper (front_empty w.rest _ e);
     written = w.written ∙ ap (λ o. appended o w.front) run.told ∙ appended-append old (text_after made start) w.front;
   } where
@@ -156,7 +156,7 @@ finished_limit start now limit made old written run e =
     let none : limit - made ≡ 0 = omega arith in
     let rest = ap (λ n. course now (turns n)) none ∙ course_none now run.on in
     let total : text_of (course start (turns limit)).told ≡ text_after made start =
-      run.text ∙ ap (λ (c : Course). text_after made start ++ text_of c.told) rest ∙ append-nil (text_after made start) in
+    run.text ∙ ap (λ (c : Course). text_after made start ++ text_of c.told) rest ∙ append-nil (text_after made start) in
     record {
       ending = sym (run.ending ∙ ap (λ (c : Course). c.ending) rest);
       last = sym (run.last ∙ ap (λ (c : Course). c.last) rest);

@@ -1,5 +1,5 @@
 -- The readable clauses of the one public call, from its whole story.
-use Rattle.std.proofs.Common.{◌≡◌, ◌≢◌, ℕ, ◌-◌, ◌<◌, ◌^◌, ◌⊎◌, inl, inr, Bool, true, false, List, [], ◌∷◌, ◌++◌, Option, Some, None, codes, refl, sym, ap, subst, ◌∙◌, arith}
+use Rattle.std.proofs.Common.{◌≡◌, ◌≢◌, ℕ, ◌*◌, inl, inr, List, [], ◌∷◌, ◌++◌, Option, Some, None, codes, refl, sym, ap, subst, ◌∙◌, arith}
 use Rattle.std.proofs.lemmas.List.{append_assoc}
 use Rattle.bn_types.specs.declared.ending.Ending.{Ending}
 use Rattle.bn_types.specs.declared.ending.Ending.TheVariants as ending
@@ -7,12 +7,13 @@ use Rattle.bn_types.specs.declared.status.Status.{Status}
 use Rattle.bn_types.specs.declared.status.Status.TheVariants as answer
 use Rattle.bn_edge.specs.Counts.{CanCount, Rose}
 use Rattle.bn_edge.specs.Written.{appended, WritesFront}
-use Rattle.bn_model.specs.Opening.{loaded}
-use Rattle.bn_model.specs.Reporting.{Files, Report, closing, desk_failed, image_name, report_of, report_of_course, report_of_file, report_of_name, report_of_ram, ram_size}
+use Rattle.bn_model.specs.Loading.{Load, Ram, Faulty, Unbuilt, load_of}
+use Rattle.bn_model.specs.Reporting.{Files, Report, closing, most_image_bytes, report_of, report_of_course, report_of_file, report_of_load, report_of_order}
 use Rattle.bn_model.specs.Running.{Course}
 use Rattle.bn_model.specs.Spelling.{text_of}
 use Rattle.bn_model.specs.State.{State}
-use Rattle.bn_machine.specs.Headline.{Answers, AreTold, CountsMiss, CountsSinkFault, IsDue, IsQuiet, IsStory, WasDue, WritesReport}
+use Rattle.bn_model.specs.Words.{RunOrder, order_of}
+use Rattle.bn_machine.specs.Headline.{Answers, CountsMiss, CountsSinkFault, IsDue, IsQuiet, IsStory, WasDue, WritesReport}
 use Rattle.bn_machine.specs.Telling.{FinishesRun}
 use Rattle.bn_machine.proofs.Wrote.{appended-append}
 
@@ -36,17 +37,18 @@ pub closed : (status : Status) (run : Course) (reason : Ending) (last : State) (
 closed status run reason last old mid new f ne a =
     go status ne (subst (λ (r : Report). Answers status r mid new) same a)
   where
-  same : closing reason last ≡ closing run.ending run.last
-  same = ap (λ e. closing e last) f.ending ∙ ap (closing run.ending) f.last
+    same : closing reason last ≡ closing run.ending run.last
+    same = ap (λ e. closing e last) f.ending ∙ ap (closing run.ending) f.last
 
-  go : (s : Status) → s ≢ answer.Memory → Answers s (closing run.ending run.last) mid new → Answers s (report_of_course run) old new
-  go answer.Memory n x = absurd (n refl)
-  go answer.SinkFault n x = front_after old mid new (text_of run.told) _ f.written x
-  go answer.Ended n x = (x.0, plain_after old mid new (text_of run.told) _ f.written x.1)
-  go answer.Limit n x = (x.0, plain_after old mid new (text_of run.told) _ f.written x.1)
-  go answer.NoFile n x = (x.0, plain_after old mid new (text_of run.told) _ f.written x.1)
-  go answer.DeskFault n x = (x.0, plain_after old mid new (text_of run.told) _ f.written x.1)
-  go answer.Unbuilt n x = (x.0, plain_after old mid new (text_of run.told) _ f.written x.1)
+    go : (s : Status) → s ≢ answer.Memory → Answers s (closing run.ending run.last) mid new → Answers s (report_of_course run) old new
+    go answer.Memory n x = absurd (n refl)
+    go answer.SinkFault n x = front_after old mid new (text_of run.told) _ f.written x
+    go answer.Ended n x = (x.0, plain_after old mid new (text_of run.told) _ f.written x.1)
+    go answer.Limit n x = (x.0, plain_after old mid new (text_of run.told) _ f.written x.1)
+    go answer.Image n x = (x.0, plain_after old mid new (text_of run.told) _ f.written x.1)
+    go answer.NoFile n x = (x.0, plain_after old mid new (text_of run.told) _ f.written x.1)
+    go answer.DeskFault n x = (x.0, plain_after old mid new (text_of run.told) _ f.written x.1)
+    go answer.Unbuilt n x = (x.0, plain_after old mid new (text_of run.told) _ f.written x.1)
 
 -- a proper front of a text is one of a longer text
 pub front_longer : (old new : Option (List ℕ)) (text more : List ℕ) → WritesFront old new text → WritesFront old new (text ++ more)
@@ -76,37 +78,39 @@ course_found ending.Unbuilt last = λ e. cc
 -- no report of files tells a fault of the desk
 pub no_desk_fault : (words : List (List ℕ)) (files : Files) → (report_of words files).status ≢ answer.DeskFault
 unfolding report_of
-no_desk_fault words files = of_name (image_name words) where
-  of_ram : (ram : Option (List ℕ)) → (report_of_ram ram).status ≢ answer.DeskFault
-  of_ram None = λ e. cc
-  of_ram (Some bytes) = course_status _ _
+no_desk_fault words files = of_order (order_of words) where
+  of_load : (load : Load) (order : RunOrder) → (report_of_load load order).status ≢ answer.DeskFault
+  of_load Unbuilt order = λ e. cc
+  of_load (Faulty fault) order = λ e. cc
+  of_load (Ram bytes) order = course_status _ _
 
-  of_file : (file : Option (List ℕ)) → (report_of_file file).status ≢ answer.DeskFault
-  of_file None = λ e. cc
-  of_file (Some file) = of_ram (loaded ram_size file)
+  of_file : (file : Option (List ℕ)) (order : RunOrder) → (report_of_file file order).status ≢ answer.DeskFault
+  of_file None order = λ e. cc
+  of_file (Some file) order = of_load (load_of most_image_bytes (4096 * order.ram_pages) file) order
 
-  of_name : (name : Option (List ℕ)) → (report_of_name name files).status ≢ answer.DeskFault
-  of_name None = λ e. cc
-  of_name (Some name) = of_file (files name)
+  of_order : (order : Option RunOrder) → (report_of_order order files).status ≢ answer.DeskFault
+  of_order None = λ e. cc
+  of_order (Some order) = of_file (files order.image) order
 
 -- a file that is there isn't missing
-pub file_found : (file : List ℕ) → (report_of_file (Some file)).status ≢ answer.NoFile
-file_found file = of_ram (loaded ram_size file) where
-  of_ram : (ram : Option (List ℕ)) → (report_of_ram ram).status ≢ answer.NoFile
-  of_ram None = λ e. cc
-  of_ram (Some bytes) = course_found _ _
+pub file_found : (file : List ℕ) (order : RunOrder) → (report_of_file (Some file) order).status ≢ answer.NoFile
+file_found file order = of_load (load_of most_image_bytes (4096 * order.ram_pages) file) where
+  of_load : (load : Load) → (report_of_load load order).status ≢ answer.NoFile
+  of_load Unbuilt = λ e. cc
+  of_load (Faulty fault) = λ e. cc
+  of_load (Ram bytes) = course_found _ _
 
 -- a report of a missing file has one text
 pub missing_text : (words : List (List ℕ)) (files : Files) → (report_of words files).status ≡ answer.NoFile → (report_of words files).text ≡ codes "missing image\n"
 unfolding report_of
-missing_text words files = of_name (image_name words) where
-  of_file : (file : Option (List ℕ)) → (report_of_file file).status ≡ answer.NoFile → (report_of_file file).text ≡ codes "missing image\n"
-  of_file None e = refl
-  of_file (Some file) e = absurd (file_found file e)
+missing_text words files = of_order (order_of words) where
+  of_file : (file : Option (List ℕ)) (order : RunOrder) → (report_of_file file order).status ≡ answer.NoFile → (report_of_file file order).text ≡ codes "missing image\n"
+  of_file None order e = refl
+  of_file (Some file) order e = absurd (file_found file order e)
 
-  of_name : (name : Option (List ℕ)) → (report_of_name name files).status ≡ answer.NoFile → (report_of_name name files).text ≡ codes "missing image\n"
-  of_name None e = cc
-  of_name (Some name) e = of_file (files name) e
+  of_order : (order : Option RunOrder) → (report_of_order order files).status ≡ answer.NoFile → (report_of_order order files).text ≡ codes "missing image\n"
+  of_order None e = cc
+  of_order (Some order) e = of_file (files order.image) order e
 
 -- ---- the clauses
 
@@ -129,6 +133,7 @@ module _ (told : Option (List (List ℕ × List ℕ))) (words : List (List ℕ))
   exact answer.SinkFault s sink memory quiet = absurd (sink refl)
   exact answer.Ended s sink memory quiet = reported answer.Ended s s.answered.0 s.answered.1 quiet
   exact answer.Limit s sink memory quiet = reported answer.Limit s s.answered.0 s.answered.1 quiet
+  exact answer.Image s sink memory quiet = reported answer.Image s s.answered.0 s.answered.1 quiet
   exact answer.NoFile s sink memory quiet = reported answer.NoFile s s.answered.0 s.answered.1 quiet
   exact answer.DeskFault s sink memory quiet = reported answer.DeskFault s s.answered.0 s.answered.1 quiet
   exact answer.Unbuilt s sink memory quiet = reported answer.Unbuilt s s.answered.0 s.answered.1 quiet
@@ -149,6 +154,7 @@ module _ (told : Option (List (List ℕ × List ℕ))) (words : List (List ℕ))
   no_file answer.NoFile s sink can = (λ e. due_missing s.report s.due can s.answered.0, λ rose. refl)
   no_file answer.Ended s sink can = (λ e. cc, λ rose. let same = due_found s.report answer.Ended s.due can s.answered.0 refl in absurd (omega arith))
   no_file answer.Limit s sink can = (λ e. cc, λ rose. let same = due_found s.report answer.Limit s.due can s.answered.0 refl in absurd (omega arith))
+  no_file answer.Image s sink can = (λ e. cc, λ rose. let same = due_found s.report answer.Image s.due can s.answered.0 refl in absurd (omega arith))
   no_file answer.DeskFault s sink can = (λ e. cc, λ rose. let same = due_found s.report answer.DeskFault s.due can s.answered.0 refl in absurd (omega arith))
   no_file answer.Unbuilt s sink can = (λ e. cc, λ rose. let same = due_found s.report answer.Unbuilt s.due can s.answered.0 refl in absurd (omega arith))
 
@@ -167,6 +173,7 @@ module _ (told : Option (List (List ℕ × List ℕ))) (words : List (List ℕ))
   desk_fault answer.NoFile s sink can = (λ e. cc, λ rose. due_read s.report _ s.due can s.answered.0 rose)
   desk_fault answer.Ended s sink can = (λ e. cc, λ rose. due_read s.report _ s.due can s.answered.0 rose)
   desk_fault answer.Limit s sink can = (λ e. cc, λ rose. due_read s.report _ s.due can s.answered.0 rose)
+  desk_fault answer.Image s sink can = (λ e. cc, λ rose. due_read s.report _ s.due can s.answered.0 rose)
   desk_fault answer.Unbuilt s sink can = (λ e. cc, λ rose. due_read s.report _ s.due can s.answered.0 rose)
   desk_fault answer.DeskFault s sink can = (λ e. due_failed s.report s.due can s.answered.0, λ rose. refl)
 
@@ -191,6 +198,7 @@ sink_fault answer.SinkFault old new c = (λ e. c, λ rose. refl)
 sink_fault answer.Memory old new c = (λ e. cc, λ rose. absurd (omega arith))
 sink_fault answer.Ended old new c = (λ e. cc, λ rose. absurd (omega arith))
 sink_fault answer.Limit old new c = (λ e. cc, λ rose. absurd (omega arith))
+sink_fault answer.Image old new c = (λ e. cc, λ rose. absurd (omega arith))
 sink_fault answer.NoFile old new c = (λ e. cc, λ rose. absurd (omega arith))
 sink_fault answer.DeskFault old new c = (λ e. cc, λ rose. absurd (omega arith))
 sink_fault answer.Unbuilt old new c = (λ e. cc, λ rose. absurd (omega arith))

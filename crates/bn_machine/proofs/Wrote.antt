@@ -1,7 +1,7 @@
 -- A piece that is written in several writes.
-use Rattle.std.proofs.Common.{◌≡◌, ◌≢◌, ℕ, List, [], ◌++◌, Option, Some, None, take, drop, refl, sym, ap, ◌∙◌, ◌-◌, ◌≤◌, length, arith}
+use Rattle.std.proofs.Common.{◌≡◌, ℕ, List, [], ◌++◌, Option, Some, None, take, drop, refl, sym, ap, ◌∙◌, ◌-◌, length, arith}
 use Rattle.std.proofs.lemmas.List.{append-nil, append_assoc, take-append-drop, take_all, length-drop}
-use Rattle.bn_edge.specs.Written.{appended, WritesFront}
+use Rattle.bn_edge.specs.Written.{appended}
 
 -- a front of a piece was appended, and a rest is left
 pub record HasWritten (old now : Option (List ℕ)) (piece rest : List ℕ) : Type 0 where

@@ -1,5 +1,5 @@
 -- What the one public call of the program promises.
-use Rattle.std.specs.Prelude.{◌≡◌, ◌≢◌, ℕ, ◌⊎◌, List, map, Option, Some, None, IsSome, Vec}
+use Rattle.std.specs.Prelude.{◌≡◌, ◌≢◌, ℕ, ◌⊎◌, List, map, Option, Some, None, Vec}
 use Rattle.std.specs.declared.alloc.Global.{Global}
 use Rattle.bn_types.specs.declared.status.Status.{Status}
 use Rattle.bn_types.specs.declared.status.Status.TheVariants as answer
@@ -8,7 +8,7 @@ use Rattle.bn_edge.specs.declared.desk_fault.DeskFault.TheVariants as desk_fault
 use Rattle.bn_edge.specs.Counts.{CanCount, Rose}
 use Rattle.bn_edge.specs.Files.{file_named}
 use Rattle.bn_edge.specs.Written.{appended, WritesFront}
-use Rattle.bn_model.specs.Reporting.{Files, Report, desk_failed, report_of, report_of_file}
+use Rattle.bn_model.specs.Reporting.{Files, Report, desk_failed, missing, report_of}
 
 -- the words as lists of bytes
 abbrev pub bytes_of_words : List (Vec ℕ Global) → List (List ℕ)
@@ -38,6 +38,7 @@ CountsMiss answer.Limit old new = new ≡ old
 CountsMiss answer.SinkFault old new = new ≡ old
 CountsMiss answer.DeskFault old new = new ≡ old
 CountsMiss answer.Unbuilt old new = new ≡ old
+CountsMiss answer.Image old new = new ≡ old
 CountsMiss answer.Memory old new = new ≡ old
 
 -- the report that a call has to write, where the desk doesn't fail
@@ -73,6 +74,7 @@ Answers answer.Ended report old new = (report.status ≡ answer.Ended) × (new �
 Answers answer.Limit report old new = (report.status ≡ answer.Limit) × (new ≡ appended old report.text)
 Answers answer.NoFile report old new = (report.status ≡ answer.NoFile) × (new ≡ appended old report.text)
 Answers answer.DeskFault report old new = (report.status ≡ answer.DeskFault) × (new ≡ appended old report.text)
+Answers answer.Image report old new = (report.status ≡ answer.Image) × (new ≡ appended old report.text)
 Answers answer.Unbuilt report old new = (report.status ≡ answer.Unbuilt) × (new ≡ appended old report.text)
 
 -- the sink's faults rise exactly where the answer is its fault
@@ -83,6 +85,7 @@ CountsSinkFault answer.Limit old new = new ≡ old
 CountsSinkFault answer.NoFile old new = new ≡ old
 CountsSinkFault answer.DeskFault old new = new ≡ old
 CountsSinkFault answer.Unbuilt old new = new ≡ old
+CountsSinkFault answer.Image old new = new ≡ old
 CountsSinkFault answer.Memory old new = new ≡ old
 
 -- The whole story of a call: want of memory leaves all counts of the desk; else a report was due and answered.
@@ -103,10 +106,11 @@ IsStory answer.Limit told words misses misses' faults faults' old new = WasDue t
 IsStory answer.NoFile told words misses misses' faults faults' old new = WasDue told words misses misses' faults faults' answer.NoFile old new
 IsStory answer.SinkFault told words misses misses' faults faults' old new = WasDue told words misses misses' faults faults' answer.SinkFault old new
 IsStory answer.DeskFault told words misses misses' faults faults' old new = WasDue told words misses misses' faults faults' answer.DeskFault old new
+IsStory answer.Image told words misses misses' faults faults' old new = WasDue told words misses misses' faults faults' answer.Image old new
 IsStory answer.Unbuilt told words misses misses' faults faults' old new = WasDue told words misses misses' faults faults' answer.Unbuilt old new
 
 -- want of memory is answered at once; of other faults the report is written
 abbrev pub AnswersFault : DeskFault → Status → (old new : Option (List ℕ)) → Type 0
-AnswersFault desk_fault.Missing status old new = (status ≢ answer.Memory) × Answers status (report_of_file None) old new
+AnswersFault desk_fault.Missing status old new = (status ≢ answer.Memory) × Answers status missing old new
 AnswersFault desk_fault.Failed status old new = (status ≢ answer.Memory) × Answers status desk_failed old new
 AnswersFault desk_fault.Memory status old new = (status ≡ answer.Memory) × (new ≡ old)

@@ -103,7 +103,8 @@ fn push_end(bytes: &mut ArrayVec<u8, 512>, n: u64, w: Finish, d: &Digest)
     append(bytes, b"\n");
 }
 
-fn append(bytes: &mut ArrayVec<u8, 512>, piece: &[u8])
+/// Appends a piece that there is room for.
+pub fn append(bytes: &mut ArrayVec<u8, 512>, piece: &[u8])
     requires { length bytes.old.items + length piece.now ≤ 512 }
     ensures { bytes.new.items ≡ bytes.old.items ++ piece.now }
 {
@@ -113,7 +114,8 @@ fn append(bytes: &mut ArrayVec<u8, 512>, piece: &[u8])
     }
 }
 
-fn append_number(bytes: &mut ArrayVec<u8, 512>, n: u64)
+/// Appends a number in decimal.
+pub fn append_number(bytes: &mut ArrayVec<u8, 512>, n: u64)
     requires { length bytes.old.items + 20 ≤ 512 }
     ensures text { bytes.new.items ≡ bytes.old.items ++ decimal n }
     ensures short { length bytes.new.items ≤ length bytes.old.items + 20 }

@@ -1,31 +1,57 @@
-//! Raw images: their bytes go to the beginning of RAM.
-ghost use Rattle.std.specs.Prelude.{◌≡◌, ◌++◌, ◌-◌, ◌≤◌, IfOk, IfSome, MatchOption, None, Some, length, replicate};
-ghost use Rattle.bn_model.specs.Opening.{is_raw_image, loaded};
+//! Image files.
+ghost use Rattle.std.specs.Prelude.{◌≡◌, ◌++◌, ◌-◌, ◌≤◌, ◌==◌, nat_eq, nat_lt, IfOk, length, replicate};
+ghost use Rattle.std.specs.List.{starts_with};
+ghost use Rattle.bn_machine.specs.Loads.{Fills, plain};
+ghost use Rattle.bn_model.specs.Loading as flat;
 
+use crate::load::Load;
+use bn_types::{ImageFault, ImageSort, NoMemory};
 use std::alloc::Global;
 
-use bn_types::NoMemory;
+/// An image file has at most so many bytes.
+pub const MOST_IMAGE_BYTES: usize = 33_554_432;
 
 const ELF_MAGIC: [u8; 4] = [0x7f, 0x45, 0x4c, 0x46];
 
-/// The bytes of a RAM of this size that a raw image gives. None exactly where the file is empty, is longer
-/// than RAM or begins as an ELF file does.
-#[tactic(auto, unfolding(bn_model::specs::Opening::loaded))]
-pub fn load_raw(alloc: Global, file: &[u8], size: usize) -> Result<Option<Vec<u8>>, NoMemory>
-    ensures gives { IfOk result (λ ram. MatchOption ram
-        (loaded size file.now ≡ None) (λ bytes. loaded size file.now ≡ Some bytes.items)) }
-    ensures whole { IfOk result (λ ram. IfSome ram (λ bytes. length bytes.items ≡ size)) }
+/// What a file comes to in a RAM of this size in bytes. Want of memory is the only error.
+#[tactic(auto, unfolding(bn_model::specs::Loading::load_of))]
+pub fn load(alloc: Global, file: &[u8], size: usize) -> Result<Load, NoMemory>
+    ensures loads { IfOk result (λ load. plain load ≡ flat.load_of 33554432 size file.now) }
+    ensures fills { IfOk result (λ load. Fills size load) }
 {
-    if !is_raw(file, size) {
-        return Ok(None);
+    if MOST_IMAGE_BYTES < file.len() {
+        return Ok(too_long(MOST_IMAGE_BYTES));
     }
-    Ok(Some(fill(alloc, file, size)?))
+    if file.is_empty() {
+        return Ok(Load::Faulty(ImageFault {
+            sort: ImageSort::Empty,
+            at: 0,
+        }));
+    }
+    if file.starts_with(&ELF_MAGIC) {
+        return Ok(Load::Unbuilt);
+    }
+    load_raw(alloc, file, size)
 }
 
-fn is_raw(file: &[u8], size: usize) -> bool
-    ensures { result ≡ is_raw_image size file.now }
+fn load_raw(alloc: Global, file: &[u8], size: usize) -> Result<Load, NoMemory>
+    ensures loads { IfOk result (λ load.
+        plain load ≡ flat.load_raw_if (nat_lt size (length file.now)) size file.now) }
+    ensures fills { IfOk result (λ load. Fills size load) }
 {
-    1 <= file.len() && file.len() <= size && !file.starts_with(&ELF_MAGIC)
+    if size < file.len() {
+        return Ok(too_long(size));
+    }
+    Ok(Load::Ram(fill(alloc, file, size)?))
+}
+
+fn too_long(most: usize) -> Load
+    ensures { result ≡ Load.Faulty (record { sort = ImageSort.Long; at = most }) }
+{
+    Load::Faulty(ImageFault {
+        sort: ImageSort::Long,
+        at: most as u64,
+    })
 }
 
 fn fill(alloc: Global, file: &[u8], size: usize) -> Result<Vec<u8>, NoMemory>

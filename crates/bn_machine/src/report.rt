@@ -1,29 +1,28 @@
 //! Reports that are made and written.
-ghost use Rattle.std.specs.Prelude.{◌≡◌, ◌≢◌, Some, length, false, ◌<◌};
+ghost use Rattle.std.specs.Prelude.{◌≡◌, ◌≢◌, ◌+◌, ◌*◌, ◌^◌, ◌++◌, ◌<◌, ◌≤◌, Some, length, false};
 ghost use Rattle.bn_edge.specs.Counts.{CanCount};
 ghost use Rattle.bn_model.specs.Reporting as flat;
+ghost use Rattle.bn_model.specs.Loading.{Ram};
 ghost use Rattle.bn_model.specs.Running.{course, turns};
 ghost use Rattle.bn_machine.specs.Headline.{Answers, CountsSinkFault};
+ghost use Rattle.bn_machine.specs.Orders.{CanRun, plain};
 
+use crate::line_buf::{append, append_number};
+use crate::load::Load;
+use crate::loading::load;
+use crate::machine::Machine;
+use crate::order::RunOrder;
+use crate::writing::write_all;
+use crate::{LineBuf, Loaded, Settings};
+use arrayvec::ArrayVec;
+use bn_edge::Sink;
+use bn_types::{Ending, Finish, ImageFault, ImageSort, Line, Status, Steps};
 use std::alloc::Global;
 use std::marker::Brand;
 use std::sync::ledger::{Blank, Ledger};
 
-use bn_edge::Sink;
-use bn_types::{Ending, Finish, Line, Status, Steps};
-
-use crate::loading::load_raw;
-use crate::machine::Machine;
-use crate::writing::write_all;
-use crate::{LineBuf, Loaded, Settings};
-
-const RAM_PAGES: u32 = 1024;
-
-const RAM_SIZE: usize = 4_194_304;
-
+/// Where a raw image is entered.
 const RAW_ENTRY: u64 = 0x8000_0000;
-
-const MOST_EVENTS: u64 = 1_000_000;
 
 /// Writes a text and answers the status, or the sink's fault.
 pub fn say<O: Sink>(out: &mut O, text: &[u8], status: Status) -> Status
@@ -41,25 +40,57 @@ pub fn say<O: Sink>(out: &mut O, text: &[u8], status: Status) -> Status
     }
 }
 
-/// Runs a file as an image.
-#[tactic(auto, unfolding(bn_model::specs::Reporting::ram_size))]
-pub fn serve_file<O: Sink>(alloc: Global, file: &[u8], out: &mut O) -> Status
-    ensures answers { Answers result (flat.report_of_file (Some file.now))
+/// Runs a file as an order's image.
+#[tactic(auto, unfolding(bn_model::specs::Reporting::most_image_bytes))]
+pub fn serve_file<O: Sink>(alloc: Global, order: &RunOrder<'_>, file: &[u8], out: &mut O) -> Status
+    requires { CanRun order.now }
+    ensures answers { Answers result (flat.report_of_file (Some file.now) (plain order.now))
         (O.written out.old) (O.written out.new) }
     ensures counted { CanCount (O.faults out.old) →
         CountsSinkFault result (O.faults out.old) (O.faults out.new) }
 {
-    match load_raw(alloc, file, RAM_SIZE) {
-        Ok(Some(bytes)) => serve_image(alloc, bytes, out),
-        Ok(None) => say(out, b"unbuilt\n", Status::Unbuilt),
+    match load(alloc, file, order.ram_pages as usize * 4096) {
+        Ok(Load::Ram(bytes)) => serve_image(alloc, order, bytes, out),
+        Ok(Load::Faulty(fault)) => say_image_fault(&fault, out),
+        Ok(Load::Unbuilt) => say(out, b"unbuilt\n", Status::Unbuilt),
         Err(_) => Status::Memory,
     }
 }
 
-#[tactic(auto, unfolding(bn_model::specs::Opening::opening, bn_model::specs::Reporting::ram_pages, bn_model::specs::Reporting::raw_entry))]
-fn serve_image<O: Sink>(alloc: Global, bytes: Vec<u8>, out: &mut O) -> Status
-    requires { length bytes.items ≡ 4194304 }
-    ensures answers { Answers result (flat.report_of_ram (Some bytes.items))
+#[tactic(auto, unfolding(bn_model::specs::Reporting::fault_line))]
+fn say_image_fault<O: Sink>(fault: &ImageFault, out: &mut O) -> Status
+    ensures answers { Answers result
+        (record { status = Status.Image; text = flat.fault_line fault.now })
+        (O.written out.old) (O.written out.new) }
+    ensures spoken { result ≢ Status.Memory }
+    ensures counted { CanCount (O.faults out.old) →
+        CountsSinkFault result (O.faults out.old) (O.faults out.new) }
+{
+    let mut line = ArrayVec::new();
+    append(&mut line, b"image ");
+    append_sort(&mut line, fault.sort);
+    append(&mut line, b" ");
+    append_number(&mut line, fault.at);
+    append(&mut line, b"\n");
+    say(out, line.as_slice(), Status::Image)
+}
+
+fn append_sort(line: &mut ArrayVec<u8, 512>, sort: ImageSort)
+    requires { length line.old.items + 8 ≤ 512 }
+    ensures text { line.new.items ≡ line.old.items ++ flat.sort_word sort }
+    ensures short { length line.new.items ≤ length line.old.items + 8 }
+{
+    match sort {
+        ImageSort::Long => append(line, b"long"),
+        ImageSort::Empty => append(line, b"empty"),
+    }
+}
+
+#[tactic(auto, unfolding(bn_model::specs::Opening::opening, bn_model::specs::Reporting::raw_entry))]
+fn serve_image<O: Sink>(alloc: Global, order: &RunOrder<'_>, bytes: Vec<u8>, out: &mut O) -> Status
+    requires order { CanRun order.now }
+    requires whole { length bytes.items ≡ 4096 * order.now.ram_pages }
+    ensures answers { Answers result (flat.report_of_load (Ram bytes.items) (plain order.now))
         (O.written out.old) (O.written out.new) }
     ensures counted { CanCount (O.faults out.old) →
         CountsSinkFault result (O.faults out.old) (O.faults out.new) }
@@ -69,31 +100,35 @@ fn serve_image<O: Sink>(alloc: Global, bytes: Vec<u8>, out: &mut O) -> Status
         entry: RAW_ENTRY,
     };
     let settings = Settings {
-        ram_pages: RAM_PAGES,
+        ram_pages: order.ram_pages,
         harts: 1,
     };
     match Machine::boot(alloc, settings, &image) {
-        Ok(machine) => serve_machine::<O, Brand>(machine, out, Blank::new(1)),
+        Ok(machine) => serve_machine::<O, Brand>(machine, order.steps, out, Blank::new(1)),
         Err(_) => Status::Memory,
     }
 }
 
-#[tactic(auto, unfolding(bn_model::specs::Reporting::most_events))]
-fn serve_machine<O: Sink, L: Ledger>(mut machine: Machine, out: &mut O, blank: Blank) -> Status
+fn serve_machine<O: Sink, L: Ledger>(
+    mut machine: Machine,
+    limit: u64,
+    out: &mut O,
+    blank: Blank,
+) -> Status
     requires on { machine.state.off ≡ false }
     requires harts { 0 < length machine.state.harts }
-    requires clock { machine.state.clock ≡ 0 }
+    requires clock { machine.state.clock + limit < 2 ^ 64 }
     requires name { blank.name ≡ L.name }
     requires parts { blank.parts ≡ L.parts }
     requires some { 0 < L.parts }
     ensures answers { Answers result
-        (flat.report_of_course (course machine.state (turns flat.most_events)))
+        (flat.report_of_course (course machine.state (turns limit)))
         (O.written out.old) (O.written out.new) }
     ensures counted { CanCount (O.faults out.old) →
         CountsSinkFault result (O.faults out.old) (O.faults out.new) }
 {
     let mut steps = Steps::<L>::open(blank);
-    match machine.run(MOST_EVENTS, out, &mut steps) {
+    match machine.run(limit, out, &mut steps) {
         Ok(ending) => close(&machine, ending, out, &mut steps),
         Err(_) => Status::SinkFault,
     }

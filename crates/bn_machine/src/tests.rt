@@ -1,14 +1,14 @@
 ghost use Rattle.std.specs.Prelude.{◌≡◌, ◌<◌, ◌*◌, IfOk, false, length, vec_len};
 
-use crate::tests::walk::{CODE, DIGEST, EVENTS, LINES, OPERANDS};
 use crate::{Loaded, Machine, Settings};
 use bn_edge::MemSink;
-use bn_types::{Ending, Steps};
+use bn_types::{Digest, Ending, Steps};
 use std::alloc::{AllocError, Global};
 use std::marker::Brand;
 use std::process::Abort;
 use std::sync::ledger::{Blank, Ledger};
 
+mod user;
 mod walk;
 
 /// The guest's bytes, and zeros up to the end of RAM.
@@ -34,7 +34,13 @@ fn text(alloc: Global, lines: &[&str]) -> Result<String, AllocError> {
     Ok(text)
 }
 
-fn run_to_end<L: Ledger>(rt: &impl Abort, mut machine: Machine, out: &mut MemSink, blank: Blank)
+/// Runs to the shutdown and answers the number of events and the digest of RAM.
+fn run_to_end<L: Ledger>(
+    rt: &impl Abort,
+    mut machine: Machine,
+    out: &mut MemSink,
+    blank: Blank,
+) -> (u64, Digest)
     requires on { machine.state.off ≡ false }
     requires harts { 0 < length machine.state.harts }
     requires clock { machine.state.clock ≡ 0 }
@@ -47,15 +53,11 @@ fn run_to_end<L: Ledger>(rt: &impl Abort, mut machine: Machine, out: &mut MemSin
         Ok(ending) => assert_eq!(rt; ending, Ending::Shutdown),
         Err(_) => panic!(rt; "the sink failed"),
     }
-    assert_eq!(rt; machine.clock(), EVENTS);
-    let mut digits = [0; 64];
-    let digest = machine.public_digest(&mut steps);
-    assert!(rt; hex::encode_to_slice(&digest.0, &mut digits).is_ok());
-    assert_eq!(rt; digits.as_slice(), DIGEST.as_bytes());
+    (machine.clock(), machine.public_digest(&mut steps))
 }
 
 #[tactic(auto, unfolding(bn_model::specs::Opening::opening))]
-fn boot(rt: &impl Abort, alloc: Global, bytes: Vec<u8>, out: &mut MemSink)
+fn boot(rt: &impl Abort, alloc: Global, bytes: Vec<u8>, out: &mut MemSink) -> (u64, Digest)
     requires { length bytes.items ≡ 4194304 }
 {
     let image = Loaded {
@@ -72,12 +74,33 @@ fn boot(rt: &impl Abort, alloc: Global, bytes: Vec<u8>, out: &mut MemSink)
     }
 }
 
+/// The number of events and the digest of RAM at the end, where the lines are these.
+fn run_guest(
+    rt: &impl Abort,
+    alloc: Global,
+    code: &[u32],
+    operands: &[u64],
+    lines: &[&str],
+) -> (u64, Digest) {
+    let bytes = ram(alloc, code, operands).expect(rt, "memory");
+    let mut out = MemSink::of(alloc, 4096, Vec::new(alloc)).expect(rt, "memory");
+    let end = boot(rt, alloc, bytes, &mut out);
+    let text = text(alloc, lines).expect(rt, "memory");
+    assert_eq!(rt; out.bytes(), text.as_bytes());
+    end
+}
+
 #[test]
 fn every_instruction_as_another_machine_does_it(rt: HostRuntime) {
-    let alloc = rt.alloc();
-    let bytes = ram(alloc, &CODE, &OPERANDS).expect(&rt, "memory");
-    let mut out = MemSink::of(alloc, 4096, Vec::new(alloc)).expect(&rt, "memory");
-    boot(&rt, alloc, bytes, &mut out);
-    let text = text(alloc, &LINES).expect(&rt, "memory");
-    assert_eq!(&rt; out.bytes(), text.as_bytes());
+    let (events, digest) = run_guest(&rt, rt.alloc(), &walk::CODE, &walk::OPERANDS, &walk::LINES);
+    assert_eq!(&rt; events, walk::EVENTS);
+    let mut digits = [0; 64];
+    assert!(&rt; hex::encode_to_slice(&digest.0, &mut digits).is_ok());
+    assert_eq!(&rt; digits.as_slice(), walk::DIGEST.as_bytes());
+}
+
+#[test]
+fn user_mode_may_not(rt: HostRuntime) {
+    let (events, _digest) = run_guest(&rt, rt.alloc(), &user::CODE, &[], &user::LINES);
+    assert_eq!(&rt; events, user::EVENTS);
 }

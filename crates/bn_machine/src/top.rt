@@ -4,21 +4,18 @@ ghost use Rattle.bn_edge.specs.Counts.{CanCount, Rose};
 ghost use Rattle.bn_edge.specs.Written.{appended};
 ghost use Rattle.bn_machine.specs.Headline.{AnswersFault, CountsSinkFault, IsQuiet, IsStory, WritesFrontOfDue, WritesReport, bytes_of_words};
 
-use std::alloc::Global;
-
+use crate::loading::MOST_IMAGE_BYTES;
+use crate::order::order_of;
+use crate::report::{say, serve_file};
 use bn_edge::{Desk, DeskFault, Sink};
 use bn_types::Status;
-
-use crate::image_name::image_name;
-use crate::report::{say, serve_file};
-
-/// RAM has 1,024 pages; the desk is asked for one byte more, so that a longer file is known.
-const MOST_BYTES: usize = 4_194_305;
+use std::alloc::Global;
 
 /// Reads the words, runs the image that they name and writes its trace.
 ///
-/// The words are `run` and the name of a raw image, which isn't empty and doesn't begin with `-`. A run has one
-/// hart, 1,024 pages of RAM and at most a million events. Where nothing fails, the status and the text are
+/// The words are `run`, the name of a raw image, which isn't empty and doesn't begin with `-`, and then, each at
+/// most once, `--ram` with 16 to 4,096 pages (1,024 where it isn't given) and `--steps` with the most events,
+/// from 0 to 1,000,000,000 (1,000,000). A run has one hart. Where nothing fails, the status and the text are
 /// those of the report of the flat machine.
 pub fn bastion<D: Desk, O: Sink>(
     alloc: Global,
@@ -27,11 +24,10 @@ pub fn bastion<D: Desk, O: Sink>(
     out: &mut O,
 ) -> Status
     // Where no count of faults rose, the flat machine's report is written, or memory ran out.
-    ensures exact {
-        IsQuiet (O.faults out.old) (O.faults out.new) → IsQuiet (D.faults desk.old) (D.faults desk.new)
+    ensures exact { IsQuiet (O.faults out.old) (O.faults out.new) → IsQuiet (D.faults desk.old) (D.faults desk.new)
         → result ≢ Status.Memory
         → WritesReport (D.files desk.old) (bytes_of_words words.now) result
-            (O.written out.old) (O.written out.new) }
+        (O.written out.old) (O.written out.new) }
 
     // When each fault comes.
     ensures sink_fault { CanCount (O.faults out.old) →
@@ -44,8 +40,8 @@ pub fn bastion<D: Desk, O: Sink>(
     // What each of them leaves.
     ensures front { result ≡ Status.SinkFault →
         WritesFrontOfDue (D.files desk.old) (bytes_of_words words.now)
-            (D.misses desk.old) (D.misses desk.new) (D.faults desk.old) (D.faults desk.new)
-            (O.written out.old) (O.written out.new) }
+        (D.misses desk.old) (D.misses desk.new) (D.faults desk.old) (D.faults desk.new)
+        (O.written out.old) (O.written out.new) }
     ensures missing_line { result ≡ Status.NoFile →
         O.written out.new ≡ appended (O.written out.old) (codes "missing image\n") }
     ensures desk_line { result ≡ Status.DeskFault →
@@ -57,23 +53,19 @@ pub fn bastion<D: Desk, O: Sink>(
     serve(alloc, words, desk, out)
 }
 
-fn serve<D: Desk, O: Sink>(
-    alloc: Global,
-    words: &[Vec<u8>],
-    desk: &mut D,
-    out: &mut O,
-) -> Status
+fn serve<D: Desk, O: Sink>(alloc: Global, words: &[Vec<u8>], desk: &mut D, out: &mut O) -> Status
     ensures story { IsStory result (D.files desk.old) (bytes_of_words words.now)
         (D.misses desk.old) (D.misses desk.new) (D.faults desk.old) (D.faults desk.new)
         (O.written out.old) (O.written out.new) }
     ensures counted { CanCount (O.faults out.old) →
         CountsSinkFault result (O.faults out.old) (O.faults out.new) }
 {
-    let Some(name) = image_name(words) else {
+    let Some(order) = order_of(words) else {
         return say(out, b"unbuilt\n", Status::Unbuilt);
     };
-    match desk.read_front(alloc, name, MOST_BYTES) {
-        Ok(file) => serve_file(alloc, &file, out),
+    // One byte more than an image may have, so that a longer file is known.
+    match desk.read_front(alloc, order.image, MOST_IMAGE_BYTES + 1) {
+        Ok(file) => serve_file(alloc, &order, &file, out),
         Err(fault) => say_fault(fault, out),
     }
 }

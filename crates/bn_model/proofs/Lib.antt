@@ -6,9 +6,11 @@ pub mod FieldLemmas
 pub mod FormatLemmas
 pub mod ListedLemmas
 pub mod MixedLists
+pub mod NestingLaws
 pub mod PageNumbers
+pub mod PlacingLaws
 pub mod RunningLemmas
 pub mod SteppingLemmas
-pub mod WordLemmas
 pub mod WalkFacts
 pub mod Walks
+pub mod WordLemmas

@@ -47,9 +47,9 @@ byte-written width page o v k h lt =
     let bytes = length-low_bytes width v in
     let both = length-append (take o page) (low_bytes width v) in
     let first : get_or (take o page ++ low_bytes width v ++ drop (o + bytes_of width) page) (o + k) 0 ≡ get_or (take o page ++ low_bytes width v) (o + k) 0 =
-      get_or_append_left (take o page ++ low_bytes width v) (drop (o + bytes_of width) page) 0 (o + k) (omega arith) in
+    get_or_append_left (take o page ++ low_bytes width v) (drop (o + bytes_of width) page) 0 (o + k) (omega arith) in
     let second : get_or (take o page ++ low_bytes width v) (o + k) 0 ≡ get_or (low_bytes width v) (o + k - o) 0 =
-      get_or-append_right (take o page) (low_bytes width v) o (o + k) 0 front (omega arith) in
+    get_or-append_right (take o page) (low_bytes width v) o (o + k) 0 front (omega arith) in
     let place : o + k - o ≡ k = omega arith in
     first ∙ second ∙ ap (λ n. get_or (low_bytes width v) n 0) place
 
@@ -79,14 +79,14 @@ pub number_at-with_number : (width : Width) (page : List ℕ) (o v : ℕ) → o 
 unfolding number_at
 number_at-with_number width page o v h =
     number_at-same width (with_number width page o v) (low_bytes width v) o 0
-      (λ k lt. byte-written width page o v k h lt ∙ ap (λ i. get_or (low_bytes width v) i 0) (sym (zero-add k)))
+    (λ k lt. byte-written width page o v k h lt ∙ ap (λ i. get_or (low_bytes width v) i 0) (sym (zero-add k)))
     ∙ back width
   where
-  back : (w : Width) → number_at w (low_bytes w v) 0 ≡ v % 2 ^ (8 * bytes_of w)
-  back B1 = omega arith
-  back B2 = from_le_bytes-to_le_bytes_2 (v % 2 ^ 16) (omega arith)
-  back B4 = from_le_bytes-to_le_bytes_4 (v % 2 ^ 32) (omega arith)
-  back B8 = from_le_bytes-to_le_bytes_8 (v % 2 ^ 64) (omega arith)
+    back : (w : Width) → number_at w (low_bytes w v) 0 ≡ v % 2 ^ (8 * bytes_of w)
+    back B1 = omega arith
+    back B2 = from_le_bytes-to_le_bytes_2 (v % 2 ^ 16) (omega arith)
+    back B4 = from_le_bytes-to_le_bytes_4 (v % 2 ^ 32) (omega arith)
+    back B8 = from_le_bytes-to_le_bytes_8 (v % 2 ^ 64) (omega arith)
 
 -- a number elsewhere in the page stays
 pub number_at-elsewhere : (width wide : Width) (page : List ℕ) (o r v : ℕ) → o + bytes_of width ≤ length page
@@ -111,8 +111,8 @@ unfolding number_at
 number_at-zero_page width o h =
     number_at-same width zero_page [] o 0 (λ k lt. byte-zero_page (o + k) (omega arith)) ∙ none width
   where
-  none : (w : Width) → number_at w [] 0 ≡ 0
-  none B1 = refl
-  none B2 = refl
-  none B4 = refl
-  none B8 = refl
+    none : (w : Width) → number_at w [] 0 ≡ 0
+    none B1 = refl
+    none B2 = refl
+    none B4 = refl
+    none B8 = refl

@@ -35,6 +35,6 @@ course_unbuilt s n on built = unless_on s (Turn 0) (turns n) on ∙ ap (made_if 
 -- a built event, and the run of the others
 pub course_built : (s : State) (n : ℕ) → s.off ≡ false → is_built_event s (Turn 0) ≡ true
     → course s (turns (suc n))
-      ≡ (let rest = course (step s (Turn 0)) (turns n) in record rest { told = lines s (Turn 0) ++ rest.told })
+    ≡ (let rest = course (step s (Turn 0)) (turns n) in record rest { told = lines s (Turn 0) ++ rest.told })
 unfolding course turns
 course_built s n on built = unless_on s (Turn 0) (turns n) on ∙ ap (made_if s (Turn 0) (turns n)) built

@@ -1,5 +1,4 @@
 -- The exceptions that a hart takes (Privileged ISA, "Supervisor Cause Register").
-use Rattle.std.specs.Prelude.{ℕ}
 use Rattle.bn_types.specs.declared.cause.Cause.{Cause}
 use Rattle.bn_model.specs.declared.decision.Decision.{Decision}
 use Rattle.bn_model.specs.declared.decision.Decision.TheVariants.{Trap}

@@ -6,11 +6,14 @@ pub mod CsrFile
 pub mod Deciding
 pub mod Decoding
 pub mod Encoding
+pub mod Entries
 pub mod Fields
 pub mod Hypervisor
 pub mod InsnRanges
 pub mod Interrupts
 pub mod Legality
+pub mod Loading
+pub mod Nesting
 pub mod Opening
 pub mod Placing
 pub mod Reporting
@@ -18,9 +21,9 @@ pub mod Running
 pub mod Spelling
 pub mod State
 pub mod Stepping
+pub mod TableLaws
 pub mod Trapping
 pub mod TwosComplement
-pub mod Entries
 pub mod WalkLaws
 pub mod Walking
-pub mod TableLaws
+pub mod Words

@@ -1,7 +1,6 @@
 -- What the program does: its status and the text that it writes, from its words and the files.
-use Rattle.std.specs.Prelude.{ℕ, ◌==◌, Bool, true, false, ◌&&◌, not, List, [], ◌∷◌, ◌++◌, codes, Option, Some, None}
+use Rattle.std.specs.Prelude.{ℕ, ◌*◌, List, ◌++◌, codes, decimal, Option, Some, None}
 use Rattle.std.specs.List.{concat}
-use Rattle.std.specs.Str.{bytes_eq, is_utf8}
 use Rattle.sha2.specs.Sha256.{sha256}
 use Rattle.bn_types.specs.declared.digest.Digest.{Digest}
 use Rattle.bn_types.specs.declared.ending.Ending.{Ending}
@@ -11,10 +10,15 @@ use Rattle.bn_types.specs.declared.finish.Finish.TheVariants.{Shutdown, Limit}
 use Rattle.bn_types.specs.declared.line.Line.TheVariants.{End}
 use Rattle.bn_types.specs.declared.status.Status.{Status}
 use Rattle.bn_types.specs.declared.status.Status.TheVariants as status
-use Rattle.bn_model.specs.Opening.{loaded, opening}
+use Rattle.bn_types.specs.declared.image_fault.ImageFault.{ImageFault}
+use Rattle.bn_types.specs.declared.image_sort.ImageSort.{ImageSort}
+use Rattle.bn_types.specs.declared.image_sort.ImageSort.TheVariants as image_sort
+use Rattle.bn_model.specs.Loading.{Load, Ram, Faulty, Unbuilt, load_of}
+use Rattle.bn_model.specs.Opening.{opening}
 use Rattle.bn_model.specs.Running.{Course, course, turns}
 use Rattle.bn_model.specs.Spelling.{spelling, text_of}
 use Rattle.bn_model.specs.State.{State}
+use Rattle.bn_model.specs.Words.{RunOrder, order_of}
 
 pub record Report : Type 0 where
   pub status : Status
@@ -23,22 +27,6 @@ pub record Report : Type 0 where
 -- the files by name, None where there is none
 abbrev pub Files : Type 0
 Files = List ℕ → Option (List ℕ)
-
--- ---- the words
-
--- a name isn't empty and doesn't begin with `-`
-abbrev pub is_name : List ℕ → Bool
-is_name [] = false
-is_name (first ∷ rest) = not (first == 45)
-
-abbrev pub named_if : Bool → List ℕ → Option (List ℕ)
-named_if true name = Some name
-named_if false name = None
-
--- the image that the words name: they are `run` and a name in UTF-8
-unfoldable pub image_name : List (List ℕ) → Option (List ℕ)
-image_name (tool ∷ name ∷ []) = named_if (bytes_eq tool (codes "run") && (is_utf8 name && is_name name)) name
-image_name _ = None
 
 -- ---- the run
 
@@ -63,35 +51,43 @@ report_of_course c = let last = closing c.ending c.last in record last { text = 
 
 -- ---- the whole
 
--- RAM has 1,024 pages, and a run makes at most a million events
-unfoldable pub ram_pages : ℕ
-ram_pages = 1024
-
-unfoldable pub ram_size : ℕ
-ram_size = 4194304
-
-unfoldable pub most_events : ℕ
-most_events = 1000000
+-- an image file has at most so many bytes
+unfoldable pub most_image_bytes : ℕ
+most_image_bytes = 33554432
 
 -- where a raw image is entered: at the beginning of RAM
 unfoldable pub raw_entry : ℕ
 raw_entry = 0x80000000
 
-abbrev pub report_of_ram : Option (List ℕ) → Report
-report_of_ram None = unbuilt
-report_of_ram (Some bytes) = report_of_course (course (opening ram_pages 1 bytes raw_entry) (turns most_events))
+abbrev pub sort_word : ImageSort → List ℕ
+sort_word image_sort.Long = codes "long"
+sort_word image_sort.Empty = codes "empty"
 
-abbrev pub report_of_file : Option (List ℕ) → Report
-report_of_file None = record { status = status.NoFile; text = codes "missing image\n" }
-report_of_file (Some file) = report_of_ram (loaded ram_size file)
+-- the line of a faulty image: what is wrong, and where
+unfoldable pub fault_line : ImageFault → List ℕ
+fault_line fault = codes "image " ++ sort_word fault.sort ++ codes " " ++ decimal fault.at ++ codes "\n"
 
-abbrev pub report_of_name : Option (List ℕ) → Files → Report
-report_of_name None files = unbuilt
-report_of_name (Some name) files = report_of_file (files name)
+-- the run of an order, once its image is loaded
+abbrev pub report_of_load : Load → RunOrder → Report
+report_of_load Unbuilt order = unbuilt
+report_of_load (Faulty fault) order = record { status = status.Image; text = fault_line fault }
+report_of_load (Ram bytes) order =
+    report_of_course (course (opening order.ram_pages 1 bytes raw_entry) (turns order.steps))
+
+abbrev pub missing : Report
+missing = record { status = status.NoFile; text = codes "missing image\n" }
+
+abbrev pub report_of_file : Option (List ℕ) → RunOrder → Report
+report_of_file None order = missing
+report_of_file (Some file) order = report_of_load (load_of most_image_bytes (4096 * order.ram_pages) file) order
+
+abbrev pub report_of_order : Option RunOrder → Files → Report
+report_of_order None files = unbuilt
+report_of_order (Some order) files = report_of_file (files order.image) order
 
 -- the status and the text of a call with these words
 unfoldable pub report_of : List (List ℕ) → Files → Report
-report_of words files = report_of_name (image_name words) files
+report_of words files = report_of_order (order_of words) files
 
 -- where the image can't be read
 abbrev pub desk_failed : Report

@@ -4,7 +4,9 @@
 
 pub use decision::Decision;
 pub use place::Place;
+pub use run_options::RunOptions;
 
 mod decision;
 pub mod laws;
 mod place;
+mod run_options;

@@ -1,5 +1,5 @@
 -- Numbers that stand in memory, little endian (Unprivileged ISA, "Load and Store Instructions").
-use Rattle.std.specs.Prelude.{ℕ, ◌+◌, ◌*◌, ◌%◌, ◌^◌, List, ◌++◌, take, drop, replicate}
+use Rattle.std.specs.Prelude.{ℕ, ◌+◌, ◌*◌, ◌%◌, ◌^◌, List, [], ◌++◌, take, drop, replicate, slice_index_or}
 use Rattle.std.specs.Int.{from_le_bytes, to_le_bytes, w8, w16, w32, w64}
 use Rattle.std.specs.Int as int
 use Rattle.bn_types.specs.declared.width.Width.{Width}
@@ -31,6 +31,10 @@ low_bytes width value = to_le_bytes (int_width width) (value % 2 ^ (8 * bytes_of
 unfoldable pub with_number : Width → List ℕ → ℕ → ℕ → List ℕ
 with_number width page offset value =
     take offset page ++ low_bytes width value ++ drop (offset + bytes_of width) page
+
+-- one of several pages; no bytes past the last of them
+abbrev pub page_at : List (List ℕ) → ℕ → List ℕ
+page_at pages page = slice_index_or pages page []
 
 -- a page of zeros
 unfoldable pub zero_page : List ℕ

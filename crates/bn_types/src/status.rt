@@ -10,6 +10,8 @@ pub enum Status {
     Limit,
     /// A named file isn't there.
     NoFile,
+    /// The image file is faulty.
+    Image,
     /// Writing the output failed.
     SinkFault,
     /// Reading a named file failed.
@@ -29,6 +31,7 @@ impl Status {
             Status::Ended => 0,
             Status::Limit => 3,
             Status::NoFile => 4,
+            Status::Image => 5,
             Status::SinkFault => 8,
             Status::DeskFault => 9,
             Status::Unbuilt => 12,

@@ -1,25 +1,19 @@
 //! A machine as it begins.
 ghost use Rattle.std.specs.Prelude.{◌≡◌, ◌*◌, ◌%◌, ◌<◌, ◌≤◌, ◌++◌, ◌∷◌, [], IfOk, OnOk, length, slice_set};
-ghost use Rattle.bn_frames.specs.Frames.{frame_at};
+ghost use Rattle.bn_types.specs.Numbers.{page_at};
 ghost use Rattle.bn_model.specs.Opening as flat;
 ghost use Rattle.bn_machine.specs.Within.{AreWhole};
-
-use std::alloc::Global;
-
-use bn_frames::Frames;
-use bn_types::{Frame, NoMemory, Width};
 
 use crate::hart::Hart;
 use crate::machine::Machine;
 use crate::{Loaded, Settings};
+use bn_frames::Frames;
+use bn_types::{Frame, NoMemory, Width};
+use std::alloc::Global;
 
 impl Machine {
     /// The machine with the image in its RAM and hart 0 at the image's entry.
-    pub fn boot(
-        alloc: Global,
-        settings: Settings,
-        image: &Loaded,
-    ) -> Result<Machine, NoMemory>
+    pub fn boot(alloc: Global, settings: Settings, image: &Loaded) -> Result<Machine, NoMemory>
         requires pages { (0 < settings.ram_pages) × (settings.ram_pages ≤ 4096) }
         requires harts { (0 < settings.harts) × (settings.harts ≤ 4) }
         requires whole { length image.now.bytes.items ≡ 4096 * settings.ram_pages }
@@ -78,7 +72,7 @@ fn fill(ram: &mut Frames, bytes: &[u8])
 fn fill_page(ram: &mut Frames, frame: Frame, bytes: &[u8])
     requires frame { frame.0 < length ram.old }
     requires size { length bytes.now ≡ 4096 }
-    requires whole { length (frame_at ram.old frame.0) ≡ 4096 }
+    requires whole { length (page_at ram.old frame.0) ≡ 4096 }
     ensures { ram.new ≡ slice_set ram.old frame.0 bytes.now }
 {
     for offset in 0..4096u16 {

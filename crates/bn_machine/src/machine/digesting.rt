@@ -1,18 +1,16 @@
 //! The digest of guest memory.
 ghost use Rattle.std.specs.Prelude.{◌≡◌, ◌≤◌, ◌<◌, length};
 ghost use Rattle.std.specs.List.{concat};
-ghost use Rattle.bn_frames.specs.Frames.{frame_at};
+ghost use Rattle.bn_types.specs.Numbers.{page_at};
 ghost use Rattle.bn_model.specs.Reporting as flat;
 ghost use Rattle.sha2.specs.Sha256.{sha256};
 ghost use Rattle.bn_machine.specs.Within.{AreWhole};
 
-use std::sync::ledger::Ledger;
-
+use crate::machine::Machine;
 use bn_frames::Frames;
 use bn_types::{Digest, Frame, Steps, Width};
 use sha2::{Digest as Hash, Sha256};
-
-use crate::machine::Machine;
+use std::sync::ledger::Ledger;
 
 impl Machine {
     /// SHA-256 (FIPS 180-4) of the contents of all guest pages that no module owns, in ascending order.
@@ -40,9 +38,9 @@ fn digest_frames(ram: &Frames) -> [u8; 32]
 
 fn read_frame(ram: &Frames, frame: Frame, bytes: &mut [u8])
     requires frame { frame.0 < length ram.now }
-    requires whole { length (frame_at ram.now frame.0) ≡ 4096 }
+    requires whole { length (page_at ram.now frame.0) ≡ 4096 }
     requires room { length bytes.old ≡ 4096 }
-    ensures { bytes.new ≡ frame_at ram.now frame.0 }
+    ensures { bytes.new ≡ page_at ram.now frame.0 }
 {
     for offset in 0..4096u16 {
         bytes[offset as usize] = ram.get(frame, offset, Width::B1) as u8;

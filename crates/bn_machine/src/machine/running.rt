@@ -6,14 +6,12 @@ ghost use Rattle.bn_model.specs.Running.{course, turns};
 ghost use Rattle.bn_model.specs.Spelling.{text_of};
 ghost use Rattle.bn_machine.specs.Telling.{FinishesRun, StopsRun};
 
-use std::sync::ledger::Ledger;
-
-use bn_edge::{Sink, SinkFailed};
-use bn_types::{Ending, Event, Steps};
-
+use crate::LineBuf;
 use crate::machine::Machine;
 use crate::writing::write_all;
-use crate::LineBuf;
+use bn_edge::{Sink, SinkFailed};
+use bn_types::{Ending, Event, Steps};
+use std::sync::ledger::Ledger;
 
 impl Machine {
     /// Makes turns of hart 0, at most `limit`, and writes their lines.

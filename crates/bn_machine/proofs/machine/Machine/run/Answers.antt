@@ -18,14 +18,14 @@ pub returns-in-Err-clause-finished : goal.returns-in-Err-clause-finished
 returns-in-Err-clause-finished g c =
     let now = c.loop-turn.self.state in
     rw c.turn.ensures.stepped (finished_unbuilt _ now _ _ _ _ c.loop-turn.invariant.underway c.loop-turn-test.true
-      (false_unless (is_built_event now (Turn 0)) c.in-Err.ensures.built.1))
+    (false_unless (is_built_event now (Turn 0)) c.in-Err.ensures.built.1))
 
 pub returns-in_err-write_all-clause-stopped : goal.returns-in_err-write_all-clause-stopped
 returns-in_err-write_all-clause-stopped g c =
     let text = c.bytes.ensures ∙ c.turn.ensures.told in
     let front = subst (WritesFront (g.O.Sink.written c.loop-turn.out) (g.O.Sink.written c.write_all.new.out)) text c.in_err-write_all.ensures.err in
     let stops : StopsRun c.args.self.now.state c.turn.new.self.state c.args.limit (g.O.Sink.written c.args.out.now) (g.O.Sink.written c.write_all.new.out) =
-      rw c.turn.ensures.stepped (stopped _ c.loop-turn.self.state _ _ _ _ c.loop-turn.invariant.underway c.loop-turn-test.true _ front) in
+    rw c.turn.ensures.stepped (stopped _ c.loop-turn.self.state _ _ _ _ c.loop-turn.invariant.underway c.loop-turn-test.true _ front) in
     on_err c.from_residual.result stops
 
 pub returns-in_err-write_all-clause-front : goal.returns-in_err-write_all-clause-front

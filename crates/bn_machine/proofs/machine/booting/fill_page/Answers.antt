@@ -14,4 +14,4 @@ loop-offset-preserved c =
     c.put.ensures
     ∙ ap (λ (ram : List (List ℕ)). set ram frame (with_number B1 (get_or ram frame []) offset byte)) c.loop-offset.invariant
     ∙ byte_filled c.args.ram.now frame offset byte c.args.bytes.now (get_or c.args.ram.now frame [])
-      c.requires.frame (omega arith) (c.requires.size ∙ sym c.requires.whole) small same
+    c.requires.frame (omega arith) (c.requires.size ∙ sym c.requires.whole) small same

@@ -1,0 +1,5 @@
+pub mod Keeping
+pub mod Leading
+pub mod Looking
+pub mod Moving
+pub mod Starting

@@ -1,0 +1,46 @@
+use Rattle.std.proofs.Common.{◌≡◌, ℕ, ◌<◌, List, None, ap, ◌∙◌}
+use Rattle.bn_types.specs.Numbers.{zero_page}
+use Rattle.bn_model.specs.Nesting.{placed_in, led}
+use Rattle.bn_model.proofs.PageNumbers.{length-zero_page}
+use Rattle.n_walk.specs.Holding.{Holds}
+use Rattle.n_walk.proofs.Leading.{before, led_with, led-by, IsLed, last-free, holds-mapped, contents-mapped}
+use Rattle.n_walk.proofs.nest.Nest.map.Goals as goal
+
+-- what holds before, with the frame at the end of the pool
+holds : (c : goal.After-lead) → Holds (before c.self.inside.frames c.self.inside.ram_pages c.pop.new.self.items c.in-Some.fresh)
+holds c = rw c.in-Some.ensures.items at c.self.invariant
+
+inside : (c : goal.After-lead) → c.args.page.0 < c.self.inside.ram_pages
+inside c = rw (← c.self.view_is) at c.requires.inside
+
+unplaced : (c : goal.After-lead) → placed_in c.self.inside.ram_pages c.self.inside.frames c.args.page.0 ≡ None
+unplaced c = rw (← c.self.view_is) at c.requires.unplaced
+
+new : (c : goal.After-lead) → c.lead.new.frames ≡ led_with c.self.inside.frames c.args.page.0 c.in-Some.fresh zero_page
+new c = c.lead.ensures ∙ ap (λ (frames : List (List ℕ)). led frames c.args.page.0 c.in-Some.fresh) c.zero.ensures
+
+is_led : (c : goal.After-lead) → IsLed c.self.inside.frames c.lead.new.frames c.self.inside.ram_pages c.args.page.0 c.in-Some.fresh
+is_led c = led-by _ _ _ c.pop.new.self.items _ c.args.page.0 zero_page (holds c) (inside c) length-zero_page (new c)
+
+pub invariant_of-self-2 : goal.invariant_of-self-2
+invariant_of-self-2 c =
+    holds-mapped c.self.inside.frames c.lead.new.frames c.self.inside.ram_pages c.pop.new.self.items c.in-Some.fresh c.args.page.0 (holds c) (is_led c) (unplaced c)
+
+pub returns-clause-free : goal.returns-clause-free
+returns-clause-free c =
+    let free = last-free c.self.inside.frames c.self.inside.ram_pages c.pop.new.self.items c.in-Some.fresh (holds c) in
+    rw (← c.self.view_is) (record { apart = free.apart; inside = free.inside; unplaced = free.unplaced })
+
+pub returns-clause-answer : goal.returns-clause-answer
+returns-clause-answer c = (λ e. absurd (cc), λ none. absurd (none c.in-Some.fresh (returns-clause-free c)))
+
+pub returns-clause-placed : goal.returns-clause-placed
+returns-clause-placed c = (is_led c).here
+
+pub returns-clause-others : goal.returns-clause-others
+returns-clause-others c = rw (← c.self.view_is) (is_led c).others
+
+pub returns-clause-contents : goal.returns-clause-contents
+returns-clause-contents c =
+    rw (← c.self.view_is)
+    (contents-mapped _ c.lead.new.frames _ c.pop.new.self.items c.in-Some.fresh c.args.page.0 (holds c) (inside c) (unplaced c) (new c))

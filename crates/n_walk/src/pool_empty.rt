@@ -1,0 +1,3 @@
+/// No frame is free.
+#[derive(Clone, Copy, Debug, Default, PartialEq, Eq)]
+pub struct PoolEmpty;
