@@ -5,13 +5,12 @@ use Rattle.std.proofs.lemmas.List.{append_assoc, length-append, length-take-le, 
 use Rattle.std.proofs.lemmas.List.FromFn.{length-map-range_with_len, get_or-map-range_with_len}
 use Rattle.std.proofs.lemmas.List.Folds.{concat-append}
 use Rattle.std.proofs.Math.Seq.{take-suc}
-use Rattle.bn_types.specs.Numbers.{number_at, with_number, zero_page}
+use Rattle.bn_types.specs.Numbers.{AreWhole, number_at, with_number, zero_page}
 use Rattle.bn_types.specs.declared.width.Width.TheVariants.{B1}
 use Rattle.bn_model.proofs.MixedLists.{mixed, mixed_all, set-mixed}
 use Rattle.bn_model.proofs.PageNumbers.{length-zero_page}
 use Rattle.bn_model.specs.Opening.{opening_harts, page_of, pages_of}
 use Rattle.bn_model.specs.State.{resting_hart}
-use Rattle.bn_machine.specs.Within.{AreWhole}
 
 set_split_suc : {A : Type 0} (l : List A) (i : ℕ) (a : A) → i < length l → take i l ++ a ∷ drop (suc i) l ≡ set l i a
 set_split_suc (x ∷ l) zero a h = refl

@@ -2,11 +2,10 @@
 use Rattle.std.proofs.Common.{◌≡◌, ℕ, ◌+◌, ◌%◌, ◌<◌, ◌≤◌, Bool, true, false, nat_eq, List, [], length, get_or, set, refl, subst, sym, arith, ◌∙◌, ap}
 use Rattle.std.proofs.lemmas.Bool.{eqb-true, eqb-false}
 use Rattle.std.proofs.lemmas.List.{length-set, get_or-set_same, get_or-set_other}
-use Rattle.bn_types.specs.Numbers.{bytes_of, with_number}
+use Rattle.bn_types.specs.Numbers.{AreWhole, bytes_of, with_number}
 use Rattle.bn_types.specs.declared.width.Width.{Width}
 use Rattle.bn_types.specs.declared.width.Width.TheVariants.{B1, B2, B4, B8}
 use Rattle.bn_model.proofs.PageNumbers.{length-with_number}
-use Rattle.bn_machine.specs.Within.{AreWhole}
 
 -- a page of 4,096 bytes takes the place of another
 pub whole_set : (pages : List (List ℕ)) (g : ℕ) (page : List ℕ) → AreWhole pages → length page ≡ 4096 → AreWhole (set pages g page)

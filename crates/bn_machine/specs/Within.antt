@@ -1,5 +1,5 @@
 -- What lies within a machine's size.
-use Rattle.std.specs.Prelude.{◌≡◌, ℕ, ◌%◌, ◌<◌, List, [], length, slice_index_or}
+use Rattle.std.specs.Prelude.{◌≡◌, ℕ, ◌%◌, ◌<◌, length}
 use Rattle.bn_types.specs.Numbers.{bytes_of}
 use Rattle.bn_types.specs.declared.act.Act.{Act}
 use Rattle.bn_types.specs.declared.act.Act.TheVariants as act
@@ -54,7 +54,3 @@ JumpsAligned act.Wfi = Unit {0}
 JumpsAligned act.SfenceVma = Unit {0}
 JumpsAligned (act.Bastion secure) = Unit {0}
 JumpsAligned (act.Trap cause value) = Unit {0}
-
--- each page has 4,096 bytes
-abbrev pub AreWhole : List (List ℕ) → Type 0
-AreWhole pages = (g : ℕ) → g < length pages → length (slice_index_or pages g []) ≡ 4096

@@ -23,7 +23,7 @@ pub struct Machine {
 impl Model for Machine {
     ghost use Rattle.std.specs.Prelude.{◌≤◌, ◌<◌, length};
     ghost use Rattle.bn_machine.specs.Standing.{Standing};
-    ghost use Rattle.bn_machine.specs.Within.{AreWhole};
+    ghost use Rattle.bn_types.specs.Numbers.{AreWhole};
 
     ghost Value = { Standing };
 

@@ -1,8 +1,7 @@
 //! A machine as it begins.
 ghost use Rattle.std.specs.Prelude.{◌≡◌, ◌*◌, ◌%◌, ◌<◌, ◌≤◌, ◌++◌, ◌∷◌, [], IfOk, OnOk, length, slice_set};
-ghost use Rattle.bn_types.specs.Numbers.{page_at};
+ghost use Rattle.bn_types.specs.Numbers.{AreWhole, page_at};
 ghost use Rattle.bn_model.specs.Opening as flat;
-ghost use Rattle.bn_machine.specs.Within.{AreWhole};
 
 use crate::hart::Hart;
 use crate::machine::Machine;

@@ -1,10 +1,9 @@
 //! The digest of guest memory.
 ghost use Rattle.std.specs.Prelude.{◌≡◌, ◌≤◌, ◌<◌, length};
 ghost use Rattle.std.specs.List.{concat};
-ghost use Rattle.bn_types.specs.Numbers.{page_at};
+ghost use Rattle.bn_types.specs.Numbers.{AreWhole, page_at};
 ghost use Rattle.bn_model.specs.Reporting as flat;
 ghost use Rattle.sha2.specs.Sha256.{sha256};
-ghost use Rattle.bn_machine.specs.Within.{AreWhole};
 
 use crate::machine::Machine;
 use bn_frames::Frames;
