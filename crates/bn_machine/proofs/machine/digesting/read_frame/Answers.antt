@@ -1,7 +1,7 @@
 use Rattle.std.proofs.Common.{◌≡◌, get_or, set, ap, sym, ◌∙◌, arith}
 use Rattle.bn_types.specs.Numbers.{page_at}
 use Rattle.bn_model.proofs.MixedLists.{set-mixed}
-use Rattle.bn_machine.proofs.Filling.{number_at-byte}
+use Rattle.bn_model.proofs.PageNumbers.{number_at-byte}
 use Rattle.bn_machine.proofs.machine.digesting.read_frame.Goals as goal
 
 pub loop-offset-preserved : goal.loop-offset-preserved
