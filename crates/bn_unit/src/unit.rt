@@ -37,8 +37,9 @@ impl Model for Unit {
 }
 
 impl Unit {
-    /// The unit over a nest that was built for this many pages of RAM, all of them placed, and that has, beside
-    /// its tables, more frames than RAM has pages.
+    /// The unit over a nest that was built for this many pages of RAM, from 1 to 4,096, all of them placed, and
+    /// that has, beside its tables, more frames than RAM has pages. There are 1 to 4 harts. It takes no memory
+    /// yet, and is never refused.
     pub fn build(alloc: Global, nest: Nest, ram_pages: u32, harts: u8) -> Result<Unit, NoMemory>
         requires ram { nest.ram ≡ ram_pages }
         requires room { table_frames nest.ram + nest.ram < length nest.frames }
@@ -59,7 +60,13 @@ impl Unit {
         self.nest.ram_pages()
     }
 
-    /// Fetches the instruction word at the virtual address, a multiple of 4.
+    /// Fetches the 4 bytes of the instruction at the virtual address, a multiple of 4, in the mode and by the
+    /// tables of the one who asks, whose `satp` has MODE 0 (Bare) or 8 (Sv39) (Privileged ISA, "Supervisor Cause
+    /// Register", "Virtual Address Translation Process").
+    ///
+    /// The fault has the virtual address with cause 12 where the tables lead to no page that may be fetched
+    /// from, and 1 where the page, or a table on the way to it, lies outside RAM. A fetch costs four steps for
+    /// each of the guest's tables and three for its page, so at most 15, and no more where it fails.
     pub fn fetch<L: Ledger>(
         &mut self,
         who: &Asker,
@@ -78,7 +85,14 @@ impl Unit {
         Ok(self.read(place, Width::B4, steps) as u32)
     }
 
-    /// Loads the number of this width at the virtual address. ...
+    /// Loads the number of this width at the virtual address, little endian, in the mode and by the tables of the
+    /// one who asks, whose `satp` has MODE 0 (Bare) or 8 (Sv39) (Privileged ISA, "Supervisor Cause Register",
+    /// "Virtual Address Translation Process").
+    ///
+    /// The fault has the virtual address with the first of these causes: 4 where it isn't a multiple of the
+    /// width in bytes, 13 where the tables lead to no page that may be loaded from, and 5 where the page, or a
+    /// table on the way to it, lies outside RAM. A load costs four steps for each of the guest's tables and three
+    /// for its page, so at most 15, and no more where it fails.
     pub fn load<L: Ledger>(
         &mut self,
         who: &Asker,
@@ -98,7 +112,14 @@ impl Unit {
         Ok(self.read(place, width, steps))
     }
 
-    /// Stores the low bytes of the value at the virtual address. ...
+    /// Stores the low bytes of the value, as many as the width has, at the virtual address, little endian, in the
+    /// mode and by the tables of the one who asks, whose `satp` has MODE 0 (Bare) or 8 (Sv39) (Privileged ISA,
+    /// "Supervisor Cause Register", "Virtual Address Translation Process").
+    ///
+    /// The fault has the virtual address with the first of these causes: 6 where it isn't a multiple of the
+    /// width in bytes, 15 where the tables lead to no page that may be stored to, and 7 where the page, or a
+    /// table on the way to it, lies outside RAM. Nothing is written then. A store costs four steps for each of
+    /// the guest's tables and three for its page, so at most 15, and no more where it fails.
     pub fn store<L: Ledger>(
         &mut self,
         who: &Asker,

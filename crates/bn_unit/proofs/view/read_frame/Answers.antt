@@ -1,6 +1,6 @@
 use Rattle.std.proofs.Common.{◌≡◌, ℕ, List, length, get_or, set, ap, sym, ◌∙◌, arith}
 use Rattle.bn_types.specs.Numbers.{page_at}
-use Rattle.bn_model.proofs.MixedLists.{mixed, mixed_all, set-mixed}
+use Rattle.bn_model.proofs.MixedLists.{mixed_all, set-mixed}
 use Rattle.bn_model.proofs.NestingLaws.{size-placed}
 use Rattle.bn_model.proofs.PageNumbers.{number_at-byte}
 use Rattle.bn_model.specs.Nesting.{contents}

@@ -1,4 +1,4 @@
-use Rattle.std.proofs.Common.{arith, sym, ap, replicate, ℕ, ◌∙◌}
+use Rattle.std.proofs.Common.{sym, ap, replicate, ℕ, ◌∙◌}
 use Rattle.bn_types.specs.Numbers.{zero_page}
 use Rattle.bn_model.proofs.NestingLaws.{page-unplaced}
 use Rattle.bn_unit.proofs.view.View.read_page.Goals as goal
