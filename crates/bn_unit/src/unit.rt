@@ -64,9 +64,10 @@ impl Unit {
     /// tables of the one who asks, whose `satp` has MODE 0 (Bare) or 8 (Sv39) (Privileged ISA, "Supervisor Cause
     /// Register", "Virtual Address Translation Process").
     ///
-    /// The fault has the virtual address with cause 12 where the tables lead to no page that may be fetched
-    /// from, and 1 where the page, or a table on the way to it, lies outside RAM. A fetch costs four steps for
-    /// each of the guest's tables and three for its page, so at most 15, and no more where it fails.
+    /// The fault has the virtual address, and the cause that is met first: 12 where the tables hold no leaf for
+    /// the address or the leaf doesn't permit the fetch, and 1 where a table, or at last the page, lies outside
+    /// RAM. A fetch costs four steps for each of the guest's tables and three for its page, so at most 15, and no
+    /// more than that where it fails.
     pub fn fetch<L: Ledger>(
         &mut self,
         who: &Asker,
@@ -89,10 +90,11 @@ impl Unit {
     /// one who asks, whose `satp` has MODE 0 (Bare) or 8 (Sv39) (Privileged ISA, "Supervisor Cause Register",
     /// "Virtual Address Translation Process").
     ///
-    /// The fault has the virtual address with the first of these causes: 4 where it isn't a multiple of the
-    /// width in bytes, 13 where the tables lead to no page that may be loaded from, and 5 where the page, or a
-    /// table on the way to it, lies outside RAM. A load costs four steps for each of the guest's tables and three
-    /// for its page, so at most 15, and no more where it fails.
+    /// The fault has the virtual address, and cause 4 where that isn't a multiple of the width in bytes, else
+    /// the cause that is met first: 13 where the tables hold no leaf for the address or the leaf doesn't permit
+    /// the load, and 5 where a table, or at last the page, lies outside RAM. A load
+    /// costs four steps for each of the guest's tables and three for its page, so at most 15, and no more than
+    /// that where it fails.
     pub fn load<L: Ledger>(
         &mut self,
         who: &Asker,
@@ -116,10 +118,11 @@ impl Unit {
     /// mode and by the tables of the one who asks, whose `satp` has MODE 0 (Bare) or 8 (Sv39) (Privileged ISA,
     /// "Supervisor Cause Register", "Virtual Address Translation Process").
     ///
-    /// The fault has the virtual address with the first of these causes: 6 where it isn't a multiple of the
-    /// width in bytes, 15 where the tables lead to no page that may be stored to, and 7 where the page, or a
-    /// table on the way to it, lies outside RAM. Nothing is written then. A store costs four steps for each of
-    /// the guest's tables and three for its page, so at most 15, and no more where it fails.
+    /// The fault has the virtual address, and cause 6 where that isn't a multiple of the width in bytes, else
+    /// the cause that is met first: 15 where the tables hold no leaf for the address or the leaf doesn't permit
+    /// the store, and 7 where a table, or at last the page, lies outside RAM. Nothing is written then. A store
+    /// costs four steps for each of the guest's tables and three for its page, so at most 15, and no more than
+    /// that where it fails.
     pub fn store<L: Ledger>(
         &mut self,
         who: &Asker,
