@@ -6,7 +6,7 @@ use Rattle.std.proofs.lemmas.Bool.{cases_eq}
 use Rattle.std.proofs.lemmas.List.FromFn.{length-map-range_with_len, get_or-map-range_with_len}
 use Rattle.std.proofs.lemmas.List.Folds.{concat-append}
 use Rattle.std.proofs.Math.Seq.{take-suc}
-use Rattle.bn_types.specs.Numbers.{AreWhole, number_at, with_number, zero_page}
+use Rattle.bn_types.specs.Numbers.{AreWhole, with_number, zero_page}
 use Rattle.bn_types.specs.declared.width.Width.TheVariants.{B1}
 use Rattle.bn_model.proofs.MixedLists.{mixed, mixed_all, set-mixed}
 use Rattle.bn_model.proofs.PageNumbers.{length-zero_page}
@@ -27,13 +27,6 @@ with_byte page offset byte inside small =
     let e : byte % 2 ^ (8 * 1) % 256 ≡ byte = omega arith in
     append_assoc (take offset page) (byte % 2 ^ (8 * 1) % 256 ∷ []) (drop (offset + 1) page)
     ∙ rw (e, add-one) (set_split_suc page offset byte inside)
-
--- reading a byte
-pub number_at-byte : (page : List ℕ) (offset : ℕ) → number_at B1 page offset ≡ get_or page offset 0
-unfolding number_at
-number_at-byte page offset =
-    let first : get_or (drop offset page) 0 0 ≡ get_or page offset 0 = get_or-drop offset page 0 0 ∙ ap (λ n. get_or page n 0) (omega arith) in
-    omega arith
 
 -- one more byte of a page
 pub byte_filled : (pages : List (List ℕ)) (f offset byte : ℕ) (bytes old : List ℕ) → f < length pages → offset < length bytes
