@@ -38,11 +38,11 @@ impl Model for Unit {
 
 impl Unit {
     /// The unit over a nest that was built for this many pages of RAM, from 1 to 4,096, all of them placed, and
-    /// that has, beside its tables, more frames than RAM has pages. There are 1 to 4 harts. It takes no memory
+    /// that has a frame to spare. There are 1 to 4 harts. It takes no memory
     /// yet, and is never refused.
     pub fn build(alloc: Global, nest: Nest, ram_pages: u32, harts: u8) -> Result<Unit, NoMemory>
         requires ram { nest.ram ≡ ram_pages }
-        requires room { table_frames nest.ram + nest.ram < length nest.frames }
+        requires room { 0 < length nest.free }
         requires harts { (0 < harts) × (harts ≤ 4) }
         requires placed { AllPlaced nest }
         ensures { IfOk result (λ unit. unit.nest ≡ nest) }

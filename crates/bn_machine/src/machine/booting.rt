@@ -1,5 +1,5 @@
 //! A machine as it begins.
-ghost use Rattle.std.specs.Prelude.{◌≡◌, ◌≢◌, ◌+◌, ◌*◌, ◌%◌, ◌<◌, ◌≤◌, ◌++◌, ◌∷◌, ℕ, [], None, Some, IfOk, OnOk, length, replicate, slice_set};
+ghost use Rattle.std.specs.Prelude.{◌≡◌, ◌≢◌, ◌+◌, ◌*◌, ◌%◌, ◌<◌, ◌≤◌, ◌++◌, ◌∷◌, ℕ, [], None, Some, false, IfOk, OnOk, length, replicate, slice_set};
 ghost use Rattle.bn_types.specs.Numbers.{page_at, zero_page};
 ghost use Rattle.bn_model.specs.Nesting.{contents, place, table_frames};
 ghost use Rattle.bn_model.specs.Opening as flat;
