@@ -1,6 +1,6 @@
 ghost use Rattle.std.specs.Prelude.{◌≡◌, ◌%◌, ◌<◌};
 ghost use Rattle.bn_model.specs.State as flat;
-ghost use Rattle.bn_model.specs.Walking.{HasMode};
+ghost use Rattle.bn_model.specs.CsrFile.{HasMode};
 
 use bn_types::{Asker, Cause, ModId, Mode, Reg, Regs};
 use rv_csr::Csrs;

@@ -3,7 +3,8 @@ ghost use Rattle.bn_types.specs.Numbers.{bytes_of};
 ghost use Rattle.bn_model.specs.Accessing.{access, loaded, read_at, stored, words_of_access, written_at};
 ghost use Rattle.bn_model.specs.Accessing as accessing;
 ghost use Rattle.bn_model.specs.Nesting.{IsNested, contents, place, table_frames};
-ghost use Rattle.bn_model.specs.Walking.{HasMode, guest_page};
+ghost use Rattle.bn_model.specs.CsrFile.{HasMode};
+ghost use Rattle.bn_model.specs.Walking.{guest_page};
 ghost use Rattle.bn_model.specs.Walking as walking;
 ghost use Rattle.bn_unit.specs.Memory.{AllPlaced, Completes, IsWithin};
 

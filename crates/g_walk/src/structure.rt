@@ -1,5 +1,6 @@
 ghost use Rattle.std.specs.Prelude.{◌≡◌, ℕ, ◌+◌, ◌*◌, ◌<◌, ◌≤◌, ◌^◌, ◌%◌, List, Ok, Some, [], false, length, IfOk, IfSome, IfNone};
-ghost use Rattle.bn_model.specs.Walking.{HasMode, canonical, entry_at, found_leaf, guest_page, index_of, leaf_of, tables_read, walk_bare, walk_from};
+ghost use Rattle.bn_model.specs.CsrFile.{HasMode};
+ghost use Rattle.bn_model.specs.Walking.{canonical, entry_at, found_leaf, guest_page, index_of, leaf_of, tables_read, walk_bare, walk_from};
 ghost use Rattle.bn_model.specs.WalkLaws.{AllFree};
 ghost use Rattle.g_walk.specs.Answers.{ended, found, landing, table_word};
 
