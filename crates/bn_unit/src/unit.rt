@@ -2,7 +2,7 @@ ghost use Rattle.std.specs.Prelude.{◌≡◌, ℕ, ◌+◌, ◌%◌, ◌^◌, �
 ghost use Rattle.bn_types.specs.Numbers.{bytes_of};
 ghost use Rattle.bn_model.specs.Accessing.{access, loaded, read_at, stored, words_of_access, written_at};
 ghost use Rattle.bn_model.specs.Accessing as accessing;
-ghost use Rattle.bn_model.specs.Nesting.{IsNested, contents, place, table_frames};
+ghost use Rattle.bn_model.specs.Nesting.{IsNested, contents, place};
 ghost use Rattle.bn_model.specs.CsrFile.{HasMode};
 ghost use Rattle.bn_model.specs.Walking.{guest_page};
 ghost use Rattle.bn_model.specs.Walking as walking;
@@ -39,8 +39,7 @@ impl Model for Unit {
 
 impl Unit {
     /// The unit over a nest that was built for this many pages of RAM, from 1 to 4,096, all of them placed, and
-    /// that has a frame to spare. There are 1 to 4 harts. It takes no memory
-    /// yet, and is never refused.
+    /// that has a frame to spare. There are 1 to 4 harts. It takes no memory yet, and is never refused.
     pub fn build(alloc: Global, nest: Nest, ram_pages: u32, harts: u8) -> Result<Unit, NoMemory>
         requires ram { nest.ram ≡ ram_pages }
         requires room { 0 < length nest.free }
@@ -93,9 +92,8 @@ impl Unit {
     ///
     /// The fault has the virtual address, and cause 4 where that isn't a multiple of the width in bytes, else
     /// the cause that is met first: 13 where the tables hold no leaf for the address or the leaf doesn't permit
-    /// the load, and 5 where a table, or at last the page, lies outside RAM. A load
-    /// costs four steps for each of the guest's tables and three for its page, so at most 15, and no more than
-    /// that where it fails.
+    /// the load, and 5 where a table, or at last the page, lies outside RAM. A load costs four steps for each of
+    /// the guest's tables and three for its page, so at most 15, and no more than that where it fails.
     pub fn load<L: Ledger>(
         &mut self,
         who: &Asker,
