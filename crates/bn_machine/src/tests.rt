@@ -8,6 +8,7 @@ use std::marker::Brand;
 use std::process::Abort;
 use std::sync::ledger::{Blank, Ledger};
 
+mod top;
 mod user;
 mod walk;
 
