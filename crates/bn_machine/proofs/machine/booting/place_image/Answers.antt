@@ -9,7 +9,7 @@ use Rattle.bn_machine.proofs.machine.booting.place_image.Goals as goal
 pub fill_page-requires-clause-inside : goal.fill_page-requires-clause-inside
 fill_page-requires-clause-inside c =
     let size : length (contents c.build-nest.result) ≡ c.args.ram_pages =
-        ap length c.build-nest.ensures.contents ∙ length-replicate c.args.ram_pages zero_page in
+    ap length c.build-nest.ensures.contents ∙ length-replicate c.args.ram_pages zero_page in
     let below : c.loop-number.number < length (contents c.build-nest.result) = omega arith in
     rw (c.place_page-frame.ensures.contents ∙ c.loop-number.invariant.held)
     (page_inside (contents c.build-nest.result) c.loop-number.number c.args.bytes.now below)
@@ -17,7 +17,7 @@ fill_page-requires-clause-inside c =
 pub fill_page-requires-clause-whole : goal.fill_page-requires-clause-whole
 fill_page-requires-clause-whole c =
     let size : length (contents c.build-nest.result) ≡ c.args.ram_pages =
-        ap length c.build-nest.ensures.contents ∙ length-replicate c.args.ram_pages zero_page in
+    ap length c.build-nest.ensures.contents ∙ length-replicate c.args.ram_pages zero_page in
     let below : c.loop-number.number < length (contents c.build-nest.result) = omega arith in
     let whole : AreWhole (contents c.build-nest.result) = rw c.build-nest.ensures.contents (whole_zeros c.args.ram_pages) in
     rw (c.place_page-frame.ensures.contents ∙ c.loop-number.invariant.held)
@@ -26,7 +26,7 @@ fill_page-requires-clause-whole c =
 pub loop-number-preserved : goal.loop-number-preserved
 loop-number-preserved c =
     let size : length (contents c.build-nest.result) ≡ c.args.ram_pages =
-        ap length c.build-nest.ensures.contents ∙ length-replicate c.args.ram_pages zero_page in
+    ap length c.build-nest.ensures.contents ∙ length-replicate c.args.ram_pages zero_page in
     let below : c.loop-number.number < length (contents c.build-nest.result) = omega arith in
     let placing = c.place_page-frame.ensures in
     let filling = c.fill_page.ensures in
@@ -38,7 +38,7 @@ loop-number-preserved c =
 pub returns-clause-contents : goal.returns-clause-contents
 returns-clause-contents c =
     let size : length (contents c.build-nest.result) ≡ c.args.ram_pages =
-        ap length c.build-nest.ensures.contents ∙ length-replicate c.args.ram_pages zero_page in
+    ap length c.build-nest.ensures.contents ∙ length-replicate c.args.ram_pages zero_page in
     c.loop-number.invariant.held
     ∙ all_filled (contents c.build-nest.result) c.loop-number.number c.args.bytes.now (omega arith)
     ∙ ap (λ (n : ℕ). pages_of n c.args.bytes.now) size
