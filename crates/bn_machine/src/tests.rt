@@ -11,6 +11,7 @@ mod changed_tables;
 mod execution;
 mod gigapages;
 mod hello;
+mod memory_unit;
 mod non_canonical;
 mod outside;
 mod permissions;
