@@ -18,6 +18,7 @@ mod permissions;
 mod precedence;
 mod probe;
 mod roots;
+mod sizes;
 mod superpages;
 mod user;
 mod user_pages;
