@@ -1,4 +1,5 @@
 //! The call that the program makes, over a desk and a sink in memory. Each digest comes from another program.
+use super::{bytes_of_code, text};
 use crate::bastion;
 use bn_edge::{MemDesk, MemSink};
 use bn_types::Status;
@@ -28,14 +29,6 @@ const STORE: [u32; 5] = [
     0x00000073, // ecall
 ];
 
-fn bytes_of(alloc: Global, code: &[u32]) -> Result<Vec<u8>, AllocError> {
-    let mut bytes = Vec::new(alloc);
-    for word in code {
-        bytes.extend_from_slice(&word.to_le_bytes())?;
-    }
-    Ok(bytes)
-}
-
 fn repeated(alloc: Global, word: u32, count: u32) -> Result<Vec<u8>, AllocError> {
     let mut bytes = Vec::new(alloc);
     for _copy in 0..count {
@@ -58,15 +51,6 @@ fn desk_of(alloc: Global, bytes: Vec<u8>, fails: &[u64]) -> Result<MemDesk, Allo
     Ok(MemDesk::of(files, Vec::from_slice(alloc, fails)?))
 }
 
-/// A text of several pieces.
-fn joined(alloc: Global, pieces: &[&str]) -> Result<String, AllocError> {
-    let mut text = String::new(alloc);
-    for piece in pieces {
-        text.push_str(piece)?;
-    }
-    Ok(text)
-}
-
 /// Calls with the words where the only file is `a.img`, and compares the status and the text.
 fn check(
     rt: &impl Abort,
@@ -79,13 +63,13 @@ fn check(
     let list = words_of(alloc, words).expect(rt, "memory");
     let mut desk = desk_of(alloc, bytes, &[]).expect(rt, "memory");
     let mut out = MemSink::of(alloc, 4096, Vec::new(alloc)).expect(rt, "memory");
-    let text = joined(alloc, pieces).expect(rt, "memory");
+    let expected = text(alloc, pieces).expect(rt, "memory");
     assert_eq!(rt;
         bastion(alloc, &list, &mut desk, &mut out),
         status,
         "at {words:?}"
     );
-    assert_eq!(rt; out.bytes(), text.as_bytes(), "at {words:?}");
+    assert_eq!(rt; out.bytes(), expected.as_bytes(), "at {words:?}");
 }
 
 fn check_code(
@@ -96,7 +80,7 @@ fn check_code(
     status: Status,
     pieces: &[&str],
 ) {
-    let bytes = bytes_of(alloc, code).expect(rt, "memory");
+    let bytes = bytes_of_code(alloc, code).expect(rt, "memory");
     check(rt, alloc, words, bytes, status, pieces);
 }
 
@@ -267,7 +251,7 @@ fn check_faults(
     text: &str,
 ) {
     let words = words_of(alloc, &["run", "a.img"]).expect(rt, "memory");
-    let bytes = bytes_of(alloc, &HELLO).expect(rt, "memory");
+    let bytes = bytes_of_code(alloc, &HELLO).expect(rt, "memory");
     let mut desk = desk_of(alloc, bytes, desk_fails).expect(rt, "memory");
     let fails = Vec::from_slice(alloc, sink_fails).expect(rt, "memory");
     let mut out = MemSink::of(alloc, room, fails).expect(rt, "memory");
