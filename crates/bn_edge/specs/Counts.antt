@@ -1,6 +1,6 @@
 -- The counts of an object of the outside: a count rises only in a call that answers the refusal that
 -- names it, and never falls. A count is a 64-bit number; at the greatest nothing more is said of it.
-use Rattle.std.specs.Prelude.{◌≡◌, ℕ, ◌-◌, ◌^◌, ◌<◌, Result, Ok, Err}
+use Rattle.std.specs.Prelude.{◌≡◌, ◌↔◌, ℕ, ◌-◌, ◌^◌, ◌<◌, Result, Ok, Err}
 use Rattle.bn_edge.specs.declared.desk_fault.DeskFault.{DeskFault}
 use Rattle.bn_edge.specs.declared.desk_fault.DeskFault.TheVariants.{Missing, Failed, Memory}
 
@@ -11,6 +11,10 @@ CanCount count = count < 2 ^ 64 - 1
 -- the count rose from old to new
 abbrev pub Rose : ℕ → ℕ → Type 0
 Rose old new = old < new
+
+-- an answer comes exactly where the count rose, as long as it could
+abbrev pub IsToldBy : Type 0 → ℕ → ℕ → Type 0
+IsToldBy Answer old new = CanCount old → (Answer ↔ Rose old new)
 
 -- a call of one refusal: the count rises exactly where it refuses
 abbrev pub CountsRefusals : {A E : Type 0} → Result A E → ℕ → ℕ → Type 0

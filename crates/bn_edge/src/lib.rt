@@ -19,3 +19,5 @@ mod mem_sink;
 mod out_sink;
 mod sink;
 mod sink_failed;
+#[cfg(test)]
+mod tests;

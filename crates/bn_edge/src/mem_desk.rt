@@ -88,6 +88,8 @@ impl Desk for MemDesk {
         ensures listed { CanCount self.old.calls →
             ((result ≡ Err DeskFault.Failed) ↔ Contains self.old.fails (self.old.calls + 1)) }
         ensures counted { CanCount self.old.calls → self.new.calls ≡ self.old.calls + 1 }
+        ensures missed_once { CanCount self.old.misses → self.new.misses ≤ self.old.misses + 1 }
+        ensures failed_once { CanCount self.old.faults → self.new.faults ≤ self.old.faults + 1 }
         ensures lasting { self.new.fails ≡ self.old.fails }
     {
         self.calls = counted(self.calls);

@@ -84,6 +84,7 @@ impl Sink for MemSink {
         ensures takes { IfOk result (λ count.
             count ≡ min (length piece.now) (self.old.room - length self.old.bytes)) }
         ensures counted { CanCount self.old.calls → self.new.calls ≡ self.old.calls + 1 }
+        ensures once { CanCount self.old.faults → self.new.faults ≤ self.old.faults + 1 }
         ensures kept { (self.new.room ≡ self.old.room) × (self.new.fails ≡ self.old.fails) }
     {
         self.calls = counted(self.calls);

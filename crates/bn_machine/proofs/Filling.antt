@@ -1,17 +1,19 @@
--- Frames that are filled with bytes, one after another.
-use Rattle.std.proofs.Common.{◌≡◌, ℕ, zero, suc, ◌+◌, ◌-◌, ◌*◌, ◌%◌, ◌^◌, ◌<◌, ◌≤◌, List, [], ◌∷◌, ◌++◌, take, drop, length, get_or, set, replicate, refl, sym, ap, ◌∙◌, arith, add-one, subst}
+-- Pages that are filled with bytes, one after another.
+use Rattle.std.proofs.Common.{◌≡◌, ℕ, zero, suc, ◌+◌, ◌-◌, ◌*◌, ◌%◌, ◌^◌, ◌<◌, ◌≤◌, List, [], ◌∷◌, ◌++◌, take, drop, length, get_or, set, replicate, ◌≢◌, ◌⊎◌, inl, inr, Some, None, refl, sym, ap, ◌∙◌, arith, add-one, subst}
 use Rattle.std.specs.List.{concat}
 use Rattle.std.proofs.lemmas.List.{append_assoc, length-append, length-take-le, length-drop, length-replicate, set-set, get_or-set_same, get_or-drop, get_or-replicate, get_or-append_right, replicate-append-replicate, append-nil}
+use Rattle.std.proofs.lemmas.Bool.{cases_eq}
 use Rattle.std.proofs.lemmas.List.FromFn.{length-map-range_with_len, get_or-map-range_with_len}
 use Rattle.std.proofs.lemmas.List.Folds.{concat-append}
 use Rattle.std.proofs.Math.Seq.{take-suc}
-use Rattle.bn_types.specs.Numbers.{number_at, with_number, zero_page}
+use Rattle.bn_types.specs.Numbers.{AreWhole, with_number, zero_page}
 use Rattle.bn_types.specs.declared.width.Width.TheVariants.{B1}
 use Rattle.bn_model.proofs.MixedLists.{mixed, mixed_all, set-mixed}
 use Rattle.bn_model.proofs.PageNumbers.{length-zero_page}
 use Rattle.bn_model.specs.Opening.{opening_harts, page_of, pages_of}
+use Rattle.bn_model.specs.Nesting.{Nested, contents, place}
 use Rattle.bn_model.specs.State.{resting_hart}
-use Rattle.bn_machine.specs.Within.{AreWhole}
+use Rattle.bn_types.specs.declared.frame.Frame.{Frame}
 
 set_split_suc : {A : Type 0} (l : List A) (i : ℕ) (a : A) → i < length l → take i l ++ a ∷ drop (suc i) l ≡ set l i a
 set_split_suc (x ∷ l) zero a h = refl
@@ -25,13 +27,6 @@ with_byte page offset byte inside small =
     let e : byte % 2 ^ (8 * 1) % 256 ≡ byte = omega arith in
     append_assoc (take offset page) (byte % 2 ^ (8 * 1) % 256 ∷ []) (drop (offset + 1) page)
     ∙ rw (e, add-one) (set_split_suc page offset byte inside)
-
--- reading a byte
-pub number_at-byte : (page : List ℕ) (offset : ℕ) → number_at B1 page offset ≡ get_or page offset 0
-unfolding number_at
-number_at-byte page offset =
-    let first : get_or (drop offset page) 0 0 ≡ get_or page offset 0 = get_or-drop offset page 0 0 ∙ ap (λ n. get_or page n 0) (omega arith) in
-    omega arith
 
 -- one more byte of a page
 pub byte_filled : (pages : List (List ℕ)) (f offset byte : ℕ) (bytes old : List ℕ) → f < length pages → offset < length bytes
@@ -80,12 +75,6 @@ page_filled frames g bytes page h e =
     ap (set (mixed g (pages_of (length frames) bytes) frames) g) (e ∙ sym (get_or-pages_of (length frames) bytes g h))
     ∙ set-mixed g (pages_of (length frames) bytes) frames [] (omega arith) size
 
-pub whole_pages : (count : ℕ) (bytes : List ℕ) → length bytes ≡ 4096 * count → AreWhole (pages_of count bytes)
-whole_pages count bytes size g inside =
-    let below : g < count = subst (λ n. g < n) (length-pages_of count bytes) inside in
-    ap length (get_or-pages_of count bytes g below)
-    ∙ length-take-le 4096 (drop (4096 * g) bytes) (let rest = length-drop (4096 * g) bytes in omega arith)
-
 pub whole_zeros : (count : ℕ) → AreWhole (replicate count zero_page)
 whole_zeros count g inside =
     let below : g < count = subst (λ n. g < n) (length-replicate count zero_page) inside in
@@ -129,3 +118,57 @@ range_is_page bytes g =
     let size : g * 4096 + 4096 - g * 4096 ≡ 4096 = omega arith in
     let start : g * 4096 ≡ 4096 * g = omega arith in
     ap (λ n. take n (drop (g * 4096) bytes)) size ∙ ap (λ n. take 4096 (drop n bytes)) start
+
+-- ---- a nest whose pages are placed and filled in order
+
+-- the pages before this one are placed and hold their bytes; the others are as at the start
+pub record IsFilled (start nest : Nested) (page : ℕ) (bytes : List ℕ) : Type 0 where
+  pub held : contents nest ≡ mixed page (pages_of (length (contents start)) bytes) (contents start)
+  pub ram : nest.ram ≡ start.ram
+  pub spare : length nest.free + page ≡ length start.free
+  pub placed : (p : ℕ) → p < page → place nest p ≢ None
+  pub unplaced : (p : ℕ) → page ≤ p → place nest p ≡ None
+
+-- the next page is placed
+pub record IsPlaced (old new : Nested) (page : ℕ) (frame : Frame) : Type 0 where
+  pub here : place new page ≡ Some frame
+  pub others : (other : ℕ) → (other ≡ page → ⊥) → place new other ≡ place old other
+  pub held : contents new ≡ contents old
+  pub ram : new.ram ≡ old.ram
+  pub spare : length new.free + 1 ≡ length old.free
+
+-- and gets its bytes
+pub record HasBytes (old new : Nested) (page : ℕ) (bytes : List ℕ) : Type 0 where
+  pub held : contents new ≡ set (contents old) page bytes
+  pub places : (other : ℕ) → place new other ≡ place old other
+  pub ram : new.ram ≡ old.ram
+  pub free : new.free ≡ old.free
+
+pub filled_none : (start : Nested) (bytes : List ℕ) → ((p : ℕ) → place start p ≡ None) → IsFilled start start 0 bytes
+filled_none start bytes none = record {
+  held = refl;
+  ram = refl;
+  spare = omega arith;
+  placed = λ p h. absurd (omega arith);
+  unplaced = λ p h. none p;
+}
+
+pub filled_more : (start old placed new : Nested) (page : ℕ) (frame : Frame) (chunk bytes : List ℕ) → page < length (contents start)
+    → chunk ≡ page_of bytes page → IsFilled start old page bytes → IsPlaced old placed page frame → HasBytes placed new page chunk
+    → IsFilled start new (page + 1) bytes
+filled_more start old placed new page frame chunk bytes below e f p b = record {
+  held =
+      b.held
+      ∙ ap (λ (pages : List (List ℕ)). set pages page chunk) (p.held ∙ f.held)
+      ∙ page_filled (contents start) page bytes chunk below e;
+  ram = b.ram ∙ p.ram ∙ f.ram;
+  spare = let free = ap length b.free in let more = p.spare in let all = f.spare in omega arith;
+  placed = λ q h. go q h (cases_eq q page);
+  unplaced = λ q h. b.places q ∙ p.others q (λ same. absurd (omega arith)) ∙ f.unplaced q (omega arith);
+} where
+  go : (q : ℕ) → q < page + 1 → (q ≡ page) ⊎ (q ≡ page → ⊥) → place new q ≢ None
+  go q h (inl same) none =
+      let here : place new q ≡ Some frame = b.places q ∙ ap (place placed) same ∙ p.here in
+      absurd (cc)
+  go q h (inr other) none =
+      f.placed q (omega arith) (sym (p.others q other) ∙ sym (b.places q) ∙ none)

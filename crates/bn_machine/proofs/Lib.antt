@@ -4,5 +4,4 @@ pub mod Numerals
 pub mod Runs
 pub mod Serving
 pub mod Stories
-pub mod WholePages
 pub mod Wrote

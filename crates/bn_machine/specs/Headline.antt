@@ -1,5 +1,5 @@
 -- What the one public call of the program promises.
-use Rattle.std.specs.Prelude.{◌≡◌, ◌≢◌, ℕ, ◌⊎◌, List, map, Option, Some, None, Vec}
+use Rattle.std.specs.Prelude.{◌≡◌, ◌≢◌, ◌≤◌, ℕ, ◌⊎◌, List, map, Option, Some, None, Vec}
 use Rattle.std.specs.declared.alloc.Global.{Global}
 use Rattle.bn_types.specs.declared.status.Status.{Status}
 use Rattle.bn_types.specs.declared.status.Status.TheVariants as answer
@@ -21,7 +21,7 @@ AreTold (Some told) files = (name : List ℕ) → files name ≡ file_named told
 
 -- the count could rise, and didn't
 abbrev pub IsQuiet : ℕ → ℕ → Type 0
-IsQuiet old new = CanCount old × (new ≡ old)
+IsQuiet old new = CanCount old × (new ≤ old)
 
 -- a call answered and wrote the report of its words, for the files that the desk tells
 pub record WritesReport (told : Option (List (List ℕ × List ℕ))) (words : List (List ℕ)) (status : Status) (old new : Option (List ℕ)) : Type 0 where

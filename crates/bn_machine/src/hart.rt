@@ -1,9 +1,9 @@
 ghost use Rattle.std.specs.Prelude.{◌≡◌, ◌%◌, ◌<◌};
-ghost use Rattle.bn_model.specs.CsrFile.{csr_write};
 ghost use Rattle.bn_model.specs.State as flat;
+ghost use Rattle.bn_model.specs.CsrFile.{HasMode};
 
-use bn_types::{Cause, Mode, Reg, Regs};
-use rv_csr::{Csrs, Illegal};
+use bn_types::{Asker, Cause, ModId, Mode, Reg, Regs};
+use rv_csr::Csrs;
 use std::marker::Model;
 
 /// A timer that is never pending, since no clock comes so far.
@@ -114,6 +114,21 @@ impl Hart {
         &self.csrs
     }
 
+    /// The hart, of this number, as it accesses memory: in the untrusted world.
+    pub fn asker(&self, number: u8) -> Asker
+        ensures asker { result ≡ flat.asker number self.now }
+        ensures mode { HasMode result.satp }
+    {
+        Asker {
+            hart: number,
+            module: ModId(0),
+            mode: self.mode,
+            satp: self.csrs.satp(),
+            sum: self.csrs.sum(),
+            mxr: self.csrs.mxr(),
+        }
+    }
+
     /// The clock from which on its timer is pending.
     pub fn timer(&self) -> u64
         ensures { result ≡ self.now.timer }
@@ -175,12 +190,12 @@ impl Hart {
         self.retired = self.retired.wrapping_add(1);
     }
 
-    /// Writes the CSR of a number, where that is legal, sets rd to the old value and goes on.
-    pub fn change_csr(&mut self, number: u16, value: u64, rd: Reg, old: u64)
+    /// Sets rd to what a CSR held, has these CSRs and goes on.
+    pub fn set_csrs(&mut self, rd: Reg, old: u64, csrs: Csrs)
         requires { rd.0 < 32 }
-        ensures { self.new ≡ flat.csr_changed self.old number value rd old }
+        ensures { self.new ≡ flat.with_csrs self.old rd old csrs }
     {
-        write_csr(&mut self.csrs, number, value, self.mode);
+        self.csrs = csrs;
         self.go_on_with(rd, old);
     }
 
@@ -214,15 +229,5 @@ fn set_register(regs: &mut Regs, rd: Reg, value: u64)
 {
     if rd.0 != 0 {
         regs.x[rd.0 as usize] = value;
-    }
-}
-
-/// An illegal write leaves the CSRs.
-fn write_csr(csrs: &mut Csrs, number: u16, value: u64, mode: Mode)
-    ensures { csrs.new ≡ flat.csrs_after (csr_write csrs.old number value mode) csrs.old }
-{
-    match csrs.write(number, value, mode) {
-        Ok(()) => {}
-        Err(Illegal) => {}
     }
 }

@@ -9,8 +9,6 @@ pub use settings::Settings;
 pub use top::bastion;
 pub use unbuilt::Unbuilt;
 
-mod calling;
-mod csr_deciding;
 mod hart;
 mod legality;
 mod line_buf;
@@ -21,7 +19,6 @@ mod machine;
 mod number;
 mod options;
 mod order;
-mod placing;
 mod report;
 mod settings;
 #[cfg(test)]

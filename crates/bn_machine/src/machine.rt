@@ -1,42 +1,42 @@
 ghost use Rattle.std.specs.Prelude.{◌≡◌};
+ghost use Rattle.bn_model.specs.Standing.{StandsFor};
 
 use crate::hart::Hart;
-use bn_frames::Frames;
+use bn_unit::Unit;
 use std::marker::Model;
 
-mod accessing;
 mod booting;
-mod deciding;
+mod calling;
+mod carrying;
 mod digesting;
 mod making;
+mod reaching;
 mod running;
+mod turning;
 
 /// The machine that a guest runs on.
 #[derive(Drop)]
 pub struct Machine {
-    ram: Frames,
+    unit: Unit,
     harts: Vec<Hart>,
     clock: u64,
     off: bool,
 }
 
 impl Model for Machine {
-    ghost use Rattle.std.specs.Prelude.{◌≤◌, ◌<◌, length};
-    ghost use Rattle.bn_machine.specs.Standing.{Standing};
-    ghost use Rattle.bn_machine.specs.Within.{AreWhole};
+    ghost use Rattle.bn_model.specs.Nesting.{IsNested};
+    ghost use Rattle.bn_machine.specs.Standing.{Standing, standing};
 
     ghost Value = { Standing };
 
-    ghost view = { λ m. record {
-      state = record {
-        pages = m.ram;
-        harts = m.harts.items;
-        clock = m.clock;
-        off = m.off;
-      };
-    } };
+    ghost view = { λ m. standing (record {
+      nest = m.unit.nest;
+      harts = m.harts.items;
+      clock = m.clock;
+      off = m.off;
+    }) };
 
-    ghost invariant = { λ m. (length m.ram ≤ 4096) × AreWhole m.ram };
+    ghost invariant = { λ m. IsNested m.unit.nest };
 }
 
 impl Machine {
@@ -52,5 +52,12 @@ impl Machine {
         ensures { result ≡ self.now.state.clock }
     {
         self.clock
+    }
+
+    /// The machine's parts stand for a state of the flat machine at all times.
+    fn stand(&self)
+        ensures { StandsFor self.now.parts self.now.state }
+    {
+        let _unit = &self.unit;
     }
 }

@@ -1,29 +1,59 @@
-ghost use Rattle.std.specs.Prelude.{◌≡◌, ◌<◌, ◌*◌, IfOk, false, length, vec_len};
+ghost use Rattle.std.specs.Prelude.{◌≤◌};
 
-use crate::{Loaded, Machine, Settings};
+use crate::order::RunOrder;
+use crate::report::serve_file;
 use bn_edge::MemSink;
-use bn_types::{Digest, Ending, Steps};
+use bn_types::Status;
 use std::alloc::{AllocError, Global};
-use std::marker::Brand;
 use std::process::Abort;
-use std::sync::ledger::{Blank, Ledger};
 
+mod changed_tables;
+mod execution;
+mod gigapages;
+mod hello;
+mod memory_unit;
+mod non_canonical;
+mod outside;
+mod permissions;
+mod precedence;
+mod probe;
+mod roots;
+mod sizes;
+mod superpages;
+mod top;
 mod user;
+mod user_pages;
 mod walk;
 
-/// The guest's bytes, and zeros up to the end of RAM.
-fn ram(alloc: Global, code: &[u32], operands: &[u64]) -> Result<Vec<u8>, AllocError>
-    ensures { IfOk result (λ bytes. length bytes.items ≡ 4194304) }
-{
+/// The bytes of instructions.
+fn bytes_of_code(alloc: Global, code: &[u32]) -> Result<Vec<u8>, AllocError> {
     let mut bytes = Vec::new(alloc);
-    for word in code {
-        bytes.extend_from_slice(&word.to_le_bytes())?;
-    }
-    for operand in operands {
-        bytes.extend_from_slice(&operand.to_le_bytes())?;
-    }
-    bytes.resize(4_194_304, 0)?;
+    push_code(&mut bytes, code)?;
     Ok(bytes)
+}
+
+fn push_code(image: &mut Vec<u8>, code: &[u32]) -> Result<(), AllocError> {
+    for word in code {
+        image.extend_from_slice(&word.to_le_bytes())?;
+    }
+    Ok(())
+}
+
+/// Appends zeros up to the byte offset, and there the numbers.
+fn push_numbers(image: &mut Vec<u8>, offset: usize, numbers: &[u64]) -> Result<(), AllocError> {
+    image.resize(offset, 0)?;
+    for number in numbers {
+        image.extend_from_slice(&number.to_le_bytes())?;
+    }
+    Ok(())
+}
+
+/// Appends numbers at ascending byte offsets, and zeros between them.
+fn push_pairs(image: &mut Vec<u8>, pairs: &[(usize, u64)]) -> Result<(), AllocError> {
+    for (offset, number) in pairs {
+        push_numbers(image, *offset, &[*number])?;
+    }
+    Ok(())
 }
 
 fn text(alloc: Global, lines: &[&str]) -> Result<String, AllocError> {
@@ -34,73 +64,56 @@ fn text(alloc: Global, lines: &[&str]) -> Result<String, AllocError> {
     Ok(text)
 }
 
-/// Runs to the shutdown and answers the number of events and the digest of RAM.
-fn run_to_end<L: Ledger>(
-    rt: &impl Abort,
-    mut machine: Machine,
-    out: &mut MemSink,
-    blank: Blank,
-) -> (u64, Digest)
-    requires on { machine.state.off ≡ false }
-    requires harts { 0 < length machine.state.harts }
-    requires clock { machine.state.clock ≡ 0 }
-    requires name { blank.name ≡ L.name }
-    requires parts { blank.parts ≡ L.parts }
-    requires some { 0 < L.parts }
-{
-    let mut steps = Steps::<L>::open(blank);
-    match machine.run(1_000_000, out, &mut steps) {
-        Ok(ending) => assert_eq!(rt; ending, Ending::Shutdown),
-        Err(_) => panic!(rt; "the sink failed"),
-    }
-    (machine.clock(), machine.public_digest(&mut steps))
-}
-
-#[tactic(auto, unfolding(bn_model::specs::Opening::opening))]
-fn boot(rt: &impl Abort, alloc: Global, bytes: Vec<u8>, out: &mut MemSink) -> (u64, Digest)
-    requires { length bytes.items ≡ 4194304 }
-{
-    let image = Loaded {
-        bytes,
-        entry: 0x8000_0000,
-    };
-    let settings = Settings {
-        ram_pages: 1024,
-        harts: 1,
-    };
-    match Machine::boot(alloc, settings, &image) {
-        Ok(machine) => run_to_end::<Brand>(rt, machine, out, Blank::new(1)),
-        Err(_) => panic!(rt; "no memory"),
-    }
-}
-
-/// The number of events and the digest of RAM at the end, where the lines are these.
-fn run_guest(
+/// Runs an image for at most so many events, and answers the status where its trace is these lines. The last
+/// of them has the number of events and SHA-256 of RAM at the end.
+fn run_image(
     rt: &impl Abort,
     alloc: Global,
-    code: &[u32],
-    operands: &[u64],
+    ram_pages: u32,
+    steps: u64,
+    image: &[u8],
     lines: &[&str],
-) -> (u64, Digest) {
-    let bytes = ram(alloc, code, operands).expect(rt, "memory");
-    let mut out = MemSink::of(alloc, 4096, Vec::new(alloc)).expect(rt, "memory");
-    let end = boot(rt, alloc, bytes, &mut out);
+) -> Status
+    requires pages { (16 ≤ ram_pages) × (ram_pages ≤ 4096) }
+    requires steps { steps ≤ 1000000000 }
+{
+    let order = RunOrder {
+        image: "guest",
+        ram_pages,
+        steps,
+    };
+    let mut out = MemSink::of(alloc, 16_384, Vec::new(alloc)).expect(rt, "memory");
+    let status = serve_file(alloc, &order, image, &mut out);
     let text = text(alloc, lines).expect(rt, "memory");
     assert_eq!(rt; out.bytes(), text.as_bytes());
-    end
+    status
+}
+
+/// The image shuts down in a RAM of so many pages with this trace.
+fn expect_image(rt: &impl Abort, alloc: Global, ram_pages: u32, image: &[u8], lines: &[&str])
+    requires { (16 ≤ ram_pages) × (ram_pages ≤ 4096) }
+{
+    let status = run_image(rt, alloc, ram_pages, 100_000, image, lines);
+    assert_eq!(rt; status, Status::Ended);
+}
+
+/// So does the image that is this code.
+fn expect_code(rt: &impl Abort, alloc: Global, ram_pages: u32, code: &[u32], lines: &[&str])
+    requires { (16 ≤ ram_pages) × (ram_pages ≤ 4096) }
+{
+    let image = bytes_of_code(alloc, code).expect(rt, "memory");
+    expect_image(rt, alloc, ram_pages, &image, lines);
 }
 
 #[test]
 fn every_instruction_as_another_machine_does_it(rt: HostRuntime) {
-    let (events, digest) = run_guest(&rt, rt.alloc(), &walk::CODE, &walk::OPERANDS, &walk::LINES);
-    assert_eq!(&rt; events, walk::EVENTS);
-    let mut digits = [0; 64];
-    assert!(&rt; hex::encode_to_slice(&digest.0, &mut digits).is_ok());
-    assert_eq!(&rt; digits.as_slice(), walk::DIGEST.as_bytes());
+    let mut image = bytes_of_code(rt.alloc(), &walk::CODE).expect(&rt, "memory");
+    let end = image.len();
+    push_numbers(&mut image, end, &walk::OPERANDS).expect(&rt, "memory");
+    expect_image(&rt, rt.alloc(), 1024, &image, &walk::LINES);
 }
 
 #[test]
 fn user_mode_may_not(rt: HostRuntime) {
-    let (events, _digest) = run_guest(&rt, rt.alloc(), &user::CODE, &[], &user::LINES);
-    assert_eq!(&rt; events, user::EVENTS);
+    expect_code(&rt, rt.alloc(), 16, &user::CODE, &user::LINES);
 }

@@ -11,6 +11,7 @@ pub mod PageNumbers
 pub mod PlacingLaws
 pub mod RunningLemmas
 pub mod SteppingLemmas
+pub mod VisiblePages
 pub mod WalkFacts
 pub mod Walks
 pub mod WordLemmas

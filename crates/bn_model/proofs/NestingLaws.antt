@@ -1,9 +1,9 @@
 -- Laws of entries, of the placement and of the guest's pages, after a frame or an entry changes.
-use Rattle.std.proofs.Common.{◌≡◌, ℕ, ◌+◌, ◌*◌, ◌/◌, ◌%◌, ◌^◌, ◌<◌, ◌≤◌, ◌⊎◌, Bool, true, false, nat_lt, nat_eq, List, [], Some, length, get_or, set, inl, inr, refl, sym, ap, subst, ◌∙◌, arith, get_or-set_same, get_or-set_other}
+use Rattle.std.proofs.Common.{◌≡◌, ℕ, ◌+◌, ◌*◌, ◌/◌, ◌%◌, ◌^◌, ◌<◌, ◌≤◌, ◌⊎◌, Bool, true, false, nat_lt, nat_eq, List, [], Some, None, length, get_or, set, inl, inr, refl, sym, ap, subst, ◌∙◌, arith, get_or-set_same, get_or-set_other}
 use Rattle.std.proofs.lemmas.Bool.{ltb-true, lt-ltb, cases_eq, cases_lt, eqb-true}
 use Rattle.std.proofs.lemmas.List.{length-set, same_lists}
 use Rattle.std.proofs.lemmas.List.FromFn.{get_or-map-range_with_len, length-map-range_with_len}
-use Rattle.bn_types.specs.Numbers.{page_at, number_at, with_number}
+use Rattle.bn_types.specs.Numbers.{AreWhole, page_at, number_at, with_number, zero_page}
 use Rattle.bn_types.specs.declared.frame.Frame.{Frame}
 use Rattle.bn_types.specs.declared.width.Width.TheVariants.{B8}
 use Rattle.bn_model.specs.Nesting.{Nested, entry_at, leaf_to, frame_of, frame_when, low_entry, placed_in, place_when, page_in, contents_in, with_entry}
@@ -131,3 +131,15 @@ contents-set ram old new page bytes lt at others =
     go k d below (inr ne) =
         others k below ne ∙ sym (get_or-contents ram old k d below)
         ∙ sym (get_or-set_other (contents_in ram old) page k bytes d ne)
+
+-- an unplaced page of RAM has zeros
+pub page-unplaced : (n : Nested) (page : ℕ) → page < n.ram → placed_in n.ram n.frames page ≡ None
+    → page_at (contents_in n.ram n.frames) page ≡ zero_page
+page-unplaced n page inside e = get_or-contents n.ram n.frames page [] inside ∙ ap (page_in n.frames) e
+
+-- a placed page is whole where all pages are
+pub size-placed : (n : Nested) (page : ℕ) (frame : Frame) → AreWhole (contents_in n.ram n.frames)
+    → placed_in n.ram n.frames page ≡ Some frame → length (page_at (contents_in n.ram n.frames) page) ≡ 4096
+size-placed n page frame whole e =
+    let inside = placed-inside n.ram n.frames page frame e in
+    whole page (rw (length-contents n.ram n.frames) inside)

@@ -116,3 +116,10 @@ number_at-zero_page width o h =
     none B2 = refl
     none B4 = refl
     none B8 = refl
+
+-- a number of one byte
+pub number_at-byte : (page : List ℕ) (offset : ℕ) → number_at B1 page offset ≡ get_or page offset 0
+unfolding number_at
+number_at-byte page offset =
+    let first : get_or (drop offset page) 0 0 ≡ get_or page offset 0 = get_or-drop offset page 0 0 ∙ ap (λ n. get_or page n 0) (omega arith) in
+    omega arith

@@ -3,9 +3,8 @@ use Rattle.std.proofs.Common.{◌≡◌, ℕ, ◌+◌, true, false, length, refl
 use Rattle.std.proofs.lemmas.List.{length-set}
 use Rattle.bn_types.specs.declared.event.Event.{Event}
 use Rattle.bn_types.specs.declared.event.Event.TheVariants.{Turn, Key, Poke, Peek}
-use Rattle.bn_model.specs.declared.decision.Decision.{Decision}
-use Rattle.bn_model.specs.declared.decision.Decision.TheVariants.{Unbuilt, Rest, Trap, Next, Set, Jump, Store, WriteCsr, Return, Put, Answer, ShutDown}
 use Rattle.bn_model.specs.Deciding.{decision_of}
+use Rattle.bn_model.specs.Decision.{Decision, Unbuilt, Rest, Trap, Next, Set, Jump, Store, Csr, Return, Put, Answer, ShutDown}
 use Rattle.bn_model.specs.State.{State}
 use Rattle.bn_model.specs.Stepping.{step, is_built_event, after_turn, is_built_turn}
 
@@ -17,7 +16,7 @@ harts_after_turn s h Next = length-set s.harts h _
 harts_after_turn s h (Set rd value) = length-set s.harts h _
 harts_after_turn s h (Jump target rd link) = length-set s.harts h _
 harts_after_turn s h (Store place width value) = length-set s.harts h _
-harts_after_turn s h (WriteCsr number value rd old) = length-set s.harts h _
+harts_after_turn s h (Csr rd old csrs) = length-set s.harts h _
 harts_after_turn s h Return = length-set s.harts h _
 harts_after_turn s h (Put byte) = length-set s.harts h _
 harts_after_turn s h (Answer error) = length-set s.harts h _
@@ -39,7 +38,7 @@ clock_after_turn s h Next e = refl
 clock_after_turn s h (Set rd value) e = refl
 clock_after_turn s h (Jump target rd link) e = refl
 clock_after_turn s h (Store place width value) e = refl
-clock_after_turn s h (WriteCsr number value rd old) e = refl
+clock_after_turn s h (Csr rd old csrs) e = refl
 clock_after_turn s h Return e = refl
 clock_after_turn s h (Put byte) e = refl
 clock_after_turn s h (Answer error) e = refl
@@ -61,7 +60,7 @@ unbuilt_turn s h Next e = cc
 unbuilt_turn s h (Set rd value) e = cc
 unbuilt_turn s h (Jump target rd link) e = cc
 unbuilt_turn s h (Store place width value) e = cc
-unbuilt_turn s h (WriteCsr number value rd old) e = cc
+unbuilt_turn s h (Csr rd old csrs) e = cc
 unbuilt_turn s h Return e = cc
 unbuilt_turn s h (Put byte) e = cc
 unbuilt_turn s h (Answer error) e = cc

@@ -5,7 +5,8 @@ use Rattle.bn_types.specs.declared.gpn.Gpn.{Gpn}
 use Rattle.bn_types.specs.declared.page_state.PageState.TheVariants.{Free, Owned, Outside}
 use Rattle.bn_types.specs.Visible.{state_of, state_at, word_of}
 use Rattle.bn_model.specs.Entries.{entry_kind, kind_by_flags, leaf_kind, pointer_kind, aligned, ppn_of, Invalid, LeafEntry, Pointer}
-use Rattle.bn_model.specs.Walking.{Landing, TableWord, Walked, WalkFault, NoLeaf, Refused, by_mode, canonical, entry_at, found_leaf, found_none, leaf_of, mode_of, root_of, table_word, vpn_of, walk_bare, walk_from, walk_sv39, walked, with_page}
+use Rattle.bn_model.specs.CsrFile.{satp_mode}
+use Rattle.bn_model.specs.Walking.{Landing, TableWord, Walked, WalkFault, NoLeaf, Refused, by_mode, canonical, entry_at, found_leaf, found_none, leaf_of, root_of, table_word, vpn_of, walk_bare, walk_from, walk_sv39, walked, with_page}
 use Rattle.bn_model.specs.WalkLaws.{AgreeOn, AllFree, NoneFreed}
 use Rattle.bn_model.proofs.Walks.{walk-induction, walk-none, walk-kind, walk-pointer}
 
@@ -145,7 +146,7 @@ from-local pages others va level ppn tables =
 
 walked-by : (pages : List (Option (List ℕ))) (satp va : ℕ) (P : Walked → Type 0) → P (walk_bare va) → P (found_none NoLeaf []) → P (walk_from pages va 2 (root_of satp) []) → P (walked pages satp va)
 unfolding walked
-walked-by pages satp va P bare none from = go (mode_of satp == 0)
+walked-by pages satp va P bare none from = go (satp_mode satp == 0)
   where
     in_sv39 : (canonical : Bool) → P (walk_sv39 pages satp va canonical)
     in_sv39 true = from
@@ -180,7 +181,7 @@ walked-ppn pages satp va =
 
 pub walked-local : (pages others : List (Option (List ℕ))) (satp va : ℕ) → AgreeOn pages others (walked pages satp va).read → ((walked pages satp va).found ≡ Err Refused → NoneFreed pages others) → walked others satp va ≡ walked pages satp va
 unfolding walked
-walked-local pages others satp va = go (mode_of satp == 0)
+walked-local pages others satp va = go (satp_mode satp == 0)
   where
     in_sv39 : (canonical : Bool) → AgreeOn pages others (walk_sv39 pages satp va canonical).read → ((walk_sv39 pages satp va canonical).found ≡ Err Refused → NoneFreed pages others) → walk_sv39 others satp va canonical ≡ walk_sv39 pages satp va canonical
     in_sv39 true agree none_freed = (from-local pages others va 2 (root_of satp) []).same agree none_freed

@@ -38,12 +38,14 @@ satp_mode satp = satp / 2 ^ 60
 abbrev pub is_satp_mode : ℕ → Bool
 is_satp_mode mode = (mode == 0) || (mode == 8)
 
--- `sepc` and the base of `stvec` are multiples of 4, and the MODE of `satp` is one that is built
+abbrev pub HasMode : ℕ → Type 0
+HasMode satp = is_satp_mode (satp_mode satp) ≡ true
 
+-- `sepc` and the base of `stvec` are multiples of 4, and the MODE of `satp` is one that is built
 pub record HasCsrForms (c : CsrFile) : Type 0 where
   pub sepc_aligned : c.sepc % 4 ≡ 0
   pub base_aligned : c.stvec_base % 4 ≡ 0
-  pub known_mode : is_satp_mode (satp_mode c.satp) ≡ true
+  pub known_mode : HasMode c.satp
 
 -- all CSRs at reset
 abbrev pub reset_csrs : CsrFile

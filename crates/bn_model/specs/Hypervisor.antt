@@ -3,9 +3,8 @@ use Rattle.std.specs.Prelude.{ℕ, ◌-◌, ◌%◌, ◌^◌, ◌==◌, ◌||◌
 use Rattle.bn_types.specs.declared.mode.Mode.{Mode}
 use Rattle.bn_types.specs.declared.mode.Mode.TheVariants.{U, S}
 use Rattle.bn_types.specs.declared.regs.Regs.{Regs}
-use Rattle.bn_model.specs.declared.decision.Decision.{Decision}
-use Rattle.bn_model.specs.declared.decision.Decision.TheVariants.{Unbuilt, Trap, Put, Answer, ShutDown}
 use Rattle.bn_model.specs.Causes.{user_call}
+use Rattle.bn_model.specs.Decision.{Decision, Unbuilt, Trap, Put, Answer, ShutDown}
 
 -- set_timer, console_getchar, hart_start and send_ipi aren't built yet
 abbrev pub is_call_unbuilt : ℕ → Bool

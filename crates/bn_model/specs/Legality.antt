@@ -4,9 +4,8 @@ use Rattle.bn_types.specs.declared.mode.Mode.{Mode}
 use Rattle.bn_types.specs.declared.mode.Mode.TheVariants.{U, S}
 use Rattle.bn_types.specs.declared.secure.Secure.{Secure}
 use Rattle.bn_types.specs.declared.secure.Secure.TheVariants as secure
-use Rattle.bn_model.specs.declared.decision.Decision.{Decision}
-use Rattle.bn_model.specs.declared.decision.Decision.TheVariants.{Unbuilt}
 use Rattle.bn_model.specs.Causes.{illegal}
+use Rattle.bn_model.specs.Decision.{Decision, Unbuilt}
 
 abbrev pub is_supervisor : Mode → Bool
 is_supervisor U = false

@@ -1,9 +1,9 @@
 pub mod Accessing
 pub mod Acting
 pub mod Causes
-pub mod CsrDeciding
 pub mod CsrFile
 pub mod Deciding
+pub mod Decision
 pub mod Decoding
 pub mod Encoding
 pub mod Entries
@@ -15,11 +15,11 @@ pub mod Legality
 pub mod Loading
 pub mod Nesting
 pub mod Opening
-pub mod Placing
 pub mod Reporting
 pub mod Running
 pub mod Spelling
 pub mod State
+pub mod Standing
 pub mod Stepping
 pub mod TableLaws
 pub mod Trapping

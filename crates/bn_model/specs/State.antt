@@ -1,12 +1,13 @@
 -- The state of the flat machine: guest memory without nested tables or cached translations.
-use Rattle.std.specs.Prelude.{ℕ, ◌+◌, ◌-◌, ◌%◌, ◌^◌, ◌==◌, Bool, true, false, List, [], slice_index_or, slice_set, Option, Some, None}
+use Rattle.std.specs.Prelude.{ℕ, ◌+◌, ◌-◌, ◌%◌, ◌^◌, ◌==◌, Bool, true, false, List, slice_index_or, slice_set}
+use Rattle.bn_types.specs.declared.asker.Asker.{Asker}
 use Rattle.bn_types.specs.Registers.{zero_registers}
 use Rattle.bn_types.specs.declared.cause.Cause.{Cause}
 use Rattle.bn_types.specs.declared.mode.Mode.{Mode}
 use Rattle.bn_types.specs.declared.mode.Mode.TheVariants.{U, S}
 use Rattle.bn_types.specs.declared.reg.Reg.{Reg}
 use Rattle.bn_types.specs.declared.regs.Regs.{Regs}
-use Rattle.bn_model.specs.CsrFile.{CsrFile, csr_write, reset_csrs}
+use Rattle.bn_model.specs.CsrFile.{CsrFile, reset_csrs}
 use Rattle.bn_model.specs.Trapping.{after_sret, after_trap, trap_target}
 
 -- a hart (Unprivileged ISA, "Hardware Threads")
@@ -53,8 +54,16 @@ opening_hart entry = record resting_hart { pc = entry; mode = S; started = true 
 abbrev pub hart_at : State → ℕ → Hart
 hart_at s h = slice_index_or s.harts h resting_hart
 
-abbrev pub page_at : State → ℕ → List ℕ
-page_at s g = slice_index_or s.pages g []
+-- hart h as it accesses memory, in the untrusted world
+abbrev pub asker : ℕ → Hart → Asker
+asker h hart = record {
+  hart = h;
+  «module» = record { 0 = 0 };
+  mode = hart.mode;
+  satp = hart.csrs.satp;
+  sum = hart.csrs.sum;
+  mxr = hart.csrs.mxr;
+}
 
 -- the registers of a call's first two arguments and of its answer (RISC-V calling conventions, "Integer
 -- Register Convention")
@@ -66,9 +75,6 @@ a1 = record { 0 = 11 }
 
 abbrev pub with_hart : State → ℕ → Hart → State
 with_hart s h hart = record s { harts = slice_set s.harts h hart }
-
-abbrev pub with_page : State → ℕ → List ℕ → State
-with_page s g page = record s { pages = slice_set s.pages g page }
 
 -- one event more was made
 abbrev pub ticked : State → State
@@ -127,17 +133,12 @@ returned hart = record hart {
   retired = one_more hart.retired;
 }
 
--- an illegal write leaves the CSRs
-abbrev pub csrs_after : Option CsrFile → CsrFile → CsrFile
-csrs_after None csrs = csrs
-csrs_after (Some written) csrs = written
-
--- it writes a CSR, which `instret` doesn't see, sets rd to what the CSR read before and goes on
-abbrev pub csr_changed : Hart → ℕ → ℕ → Reg → ℕ → Hart
-csr_changed hart number value rd old = record hart {
+-- it sets rd to what a CSR held, has these CSRs, which `instret` doesn't see, and goes on
+abbrev pub with_csrs : Hart → Reg → ℕ → CsrFile → Hart
+with_csrs hart rd old csrs = record hart {
   regs = with_register hart.regs rd old;
   pc = next_pc hart.pc;
-  csrs = csrs_after (csr_write hart.csrs number value hart.mode) hart.csrs;
+  csrs = csrs;
   retired = one_more hart.retired;
 }
 

@@ -1,21 +1,19 @@
 -- One step of the flat machine, and its lines.
 use Rattle.std.specs.Prelude.{ℕ, Bool, true, false, List, [], ◌∷◌}
-use Rattle.bn_types.specs.Numbers.{with_number}
 use Rattle.bn_types.specs.declared.event.Event.{Event}
 use Rattle.bn_types.specs.declared.event.Event.TheVariants.{Turn, Key, Poke, Peek}
 use Rattle.bn_types.specs.declared.line.Line.{Line}
 use Rattle.bn_types.specs.declared.line.Line.TheVariants as line
 use Rattle.bn_types.specs.declared.width.Width.{Width}
-use Rattle.bn_model.specs.declared.decision.Decision.{Decision}
-use Rattle.bn_model.specs.declared.decision.Decision.TheVariants.{Unbuilt, Rest, Trap, Next, Set, Jump, Store, WriteCsr, Return, Put, Answer, ShutDown}
 use Rattle.bn_model.specs.declared.place.Place.{Place}
+use Rattle.bn_model.specs.Accessing.{written_at}
 use Rattle.bn_model.specs.Deciding.{decision_of}
-use Rattle.bn_model.specs.State.{State, a0, answered, csr_changed, gone_on, gone_on_with, hart_at, jumped, page_at, returned, switched_off, ticked, trapped, with_hart, with_page}
+use Rattle.bn_model.specs.Decision.{Decision, Unbuilt, Rest, Trap, Next, Set, Jump, Store, Csr, Return, Put, Answer, ShutDown}
+use Rattle.bn_model.specs.State.{State, a0, answered, with_csrs, gone_on, gone_on_with, hart_at, jumped, returned, switched_off, ticked, trapped, with_hart}
 
 -- the low bytes of a value are stored at a place
 abbrev pub with_stored : State → Place → Width → ℕ → State
-with_stored s place width value =
-    with_page s place.page.0 (with_number width (page_at s place.page.0) place.offset value)
+with_stored s place width value = record s { pages = written_at s.pages width value place }
 
 -- the state after a turn of hart h that comes to this
 abbrev pub after_turn : State → ℕ → Decision → State
@@ -27,8 +25,7 @@ after_turn s h (Set rd value) = ticked (with_hart s h (gone_on_with (hart_at s h
 after_turn s h (Jump target rd link) = ticked (with_hart s h (jumped (hart_at s h) target rd link))
 after_turn s h (Store place width value) =
     ticked (with_hart (with_stored s place width value) h (gone_on (hart_at s h)))
-after_turn s h (WriteCsr number value rd old) =
-    ticked (with_hart s h (csr_changed (hart_at s h) number value rd old))
+after_turn s h (Csr rd old csrs) = ticked (with_hart s h (with_csrs (hart_at s h) rd old csrs))
 after_turn s h Return = ticked (with_hart s h (returned (hart_at s h)))
 after_turn s h (Put byte) = ticked (with_hart s h (gone_on_with (hart_at s h) a0 0))
 after_turn s h (Answer error) = ticked (with_hart s h (answered (hart_at s h) error))
@@ -43,7 +40,7 @@ lines_of_turn s h Next = []
 lines_of_turn s h (Set rd value) = []
 lines_of_turn s h (Jump target rd link) = []
 lines_of_turn s h (Store place width value) = []
-lines_of_turn s h (WriteCsr number value rd old) = []
+lines_of_turn s h (Csr rd old csrs) = []
 lines_of_turn s h Return = []
 lines_of_turn s h (Put byte) = line.Out s.clock h byte ∷ []
 lines_of_turn s h (Answer error) = []
@@ -58,7 +55,7 @@ is_built_turn Next = true
 is_built_turn (Set rd value) = true
 is_built_turn (Jump target rd link) = true
 is_built_turn (Store place width value) = true
-is_built_turn (WriteCsr number value rd old) = true
+is_built_turn (Csr rd old csrs) = true
 is_built_turn Return = true
 is_built_turn (Put byte) = true
 is_built_turn (Answer error) = true

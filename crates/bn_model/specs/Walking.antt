@@ -1,6 +1,6 @@
 -- The walk of Sv39 (Privileged ISA, "Sv39: Page-Based 39-bit Virtual-Memory System", "Virtual Address
 -- Translation Process") over the guest pages as the untrusted world can read them.
-use Rattle.std.specs.Prelude.{◌≡◌, ℕ, suc, zero, ◌+◌, ◌*◌, ◌-◌, ◌/◌, ◌%◌, ◌^◌, ◌==◌, ◌⊎◌, Bool, true, false, cond, ◌&&◌, ◌||◌, List, [], ◌∷◌, ◌++◌, Option, Some, None, Result, Ok, Err, nat_lt}
+use Rattle.std.specs.Prelude.{ℕ, suc, zero, ◌+◌, ◌*◌, ◌-◌, ◌/◌, ◌%◌, ◌^◌, ◌==◌, Bool, true, false, cond, ◌&&◌, ◌||◌, List, [], ◌∷◌, ◌++◌, Option, Some, None, Result, Ok, Err, nat_lt}
 use Rattle.bn_types.specs.Visible.{word_at}
 use Rattle.bn_types.specs.declared.cause.Cause.{Cause}
 use Rattle.bn_types.specs.declared.gpn.Gpn.{Gpn}
@@ -8,18 +8,12 @@ use Rattle.bn_types.specs.declared.kind.Kind.{Kind}
 use Rattle.bn_types.specs.declared.kind.Kind.TheVariants.{Fetch, Load, Store}
 use Rattle.bn_types.specs.declared.mode.Mode.{Mode}
 use Rattle.bn_types.specs.declared.mode.Mode.TheVariants.{U, S}
+use Rattle.bn_model.specs.CsrFile.{satp_mode}
 use Rattle.bn_model.specs.Entries.{bit, readable, writable, executable, user, accessed, dirty, flags_of, ppn_of, entry_kind, EntryKind, Invalid, LeafEntry, Pointer}
 
--- `satp` has MODE 63:60, ASID 59:44, PPN 43:0 ("Supervisor Address Translation and Protection Register")
-abbrev pub mode_of : ℕ → ℕ
-mode_of satp = satp / 2 ^ 60
-
+-- PPN of `satp`, bits 43:0 ("Supervisor Address Translation and Protection Register")
 abbrev pub root_of : ℕ → ℕ
 root_of satp = satp % 2 ^ 44
-
--- the modes that `satp` can hold: Bare and Sv39
-abbrev pub HasMode : ℕ → Type 0
-HasMode satp = (mode_of satp ≡ 0) ⊎ (mode_of satp ≡ 8)
 
 -- the page of an address
 abbrev pub vpn_of : ℕ → ℕ
@@ -122,7 +116,7 @@ by_mode pages satp va false = walk_sv39 pages satp va (canonical va)
 
 -- the structural walk of an address, without the tests of permission, A and D
 unfoldable pub walked : List (Option (List ℕ)) → ℕ → ℕ → Walked
-walked pages satp va = by_mode pages satp va (mode_of satp == 0)
+walked pages satp va = by_mode pages satp va (satp_mode satp == 0)
 
 abbrev pub leaf_of : List (Option (List ℕ)) → ℕ → ℕ → Result Landing WalkFault
 leaf_of pages satp va = (walked pages satp va).found

@@ -2,11 +2,9 @@
 //! the laws of these definitions, in `laws`.
 #![tactic(auto)]
 
-pub use decision::Decision;
 pub use place::Place;
 pub use run_options::RunOptions;
 
-mod decision;
 pub mod laws;
 mod place;
 mod run_options;

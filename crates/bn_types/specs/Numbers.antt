@@ -1,5 +1,5 @@
 -- Numbers that stand in memory, little endian (Unprivileged ISA, "Load and Store Instructions").
-use Rattle.std.specs.Prelude.{ℕ, ◌+◌, ◌*◌, ◌%◌, ◌^◌, List, [], ◌++◌, take, drop, replicate, slice_index_or}
+use Rattle.std.specs.Prelude.{◌≡◌, ℕ, ◌+◌, ◌*◌, ◌%◌, ◌^◌, ◌<◌, List, [], ◌++◌, length, take, drop, replicate, slice_index_or}
 use Rattle.std.specs.Int.{from_le_bytes, to_le_bytes, w8, w16, w32, w64}
 use Rattle.std.specs.Int as int
 use Rattle.bn_types.specs.declared.width.Width.{Width}
@@ -35,6 +35,10 @@ with_number width page offset value =
 -- one of several pages; no bytes past the last of them
 abbrev pub page_at : List (List ℕ) → ℕ → List ℕ
 page_at pages page = slice_index_or pages page []
+
+-- each page has 4,096 bytes
+abbrev pub AreWhole : List (List ℕ) → Type 0
+AreWhole pages = (page : ℕ) → page < length pages → length (page_at pages page) ≡ 4096
 
 -- a page of zeros
 unfoldable pub zero_page : List ℕ

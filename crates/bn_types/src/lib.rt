@@ -2,6 +2,7 @@
 #![tactic(auto)]
 
 pub use act::Act;
+pub use asker::Asker;
 pub use cause::Cause;
 pub use csr_from::CsrFrom;
 pub use csr_op::CsrOp;
@@ -45,6 +46,7 @@ pub use width::Width;
 pub use word_op::WordOp;
 
 mod act;
+mod asker;
 mod cause;
 mod csr_from;
 mod csr_op;

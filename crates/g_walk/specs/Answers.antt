@@ -1,5 +1,5 @@
 -- What the walk's answers are in the definitions of the flat machine.
-use Rattle.std.specs.Prelude.{Option, Some, None, Result, Ok, Err}
+use Rattle.std.specs.Prelude.{false, List, Option, Some, None, Result, Ok, Err}
 use Rattle.bn_model.specs.Entries as entries
 use Rattle.bn_model.specs.Walking as walking
 use Rattle.bn_types.specs.declared.cause.Cause.{Cause}
@@ -9,6 +9,8 @@ use Rattle.g_walk.specs.declared.fault.LeafFault.{LeafFault}
 use Rattle.g_walk.specs.declared.fault.LeafFault.TheVariants as faults
 use Rattle.g_walk.specs.declared.found.Leaf.{Leaf}
 use Rattle.g_walk.specs.declared.structure.TableEntry.{TableEntry}
+use Rattle.g_walk.specs.declared.structure.WalkEnd.{WalkEnd}
+use Rattle.bn_types.specs.declared.gpn.Gpn.{Gpn}
 
 abbrev pub kind : EntryKind → entries.EntryKind
 kind kinds.Invalid = entries.Invalid
@@ -30,6 +32,11 @@ fault faults.Refused = walking.Refused
 abbrev pub found : Result Leaf LeafFault → Result walking.Landing walking.WalkFault
 found (Ok leaf) = Ok (landing leaf)
 found (Err e) = Err (fault e)
+
+-- where the tables end, once the pages read are known
+abbrev pub ended : Result WalkEnd LeafFault → List Gpn → Result walking.Landing walking.WalkFault
+ended (Ok end) tables = Ok (record { ppn = end.ppn; flags = end.flags; bare = false; tables = tables })
+ended (Err e) tables = Err (fault e)
 
 abbrev pub reached : Result Leaf Cause → Result walking.Landing Cause
 reached (Ok leaf) = Ok (landing leaf)

@@ -1,5 +1,6 @@
 ghost use Rattle.std.specs.Prelude.{◌≡◌, ℕ, ◌+◌, ◌*◌, ◌≤◌, ◌<◌, ◌^◌, false, length, IfOk};
-ghost use Rattle.bn_model.specs.Walking.{HasMode, access_fault, page_fault, tables_read, walk_of};
+ghost use Rattle.bn_model.specs.CsrFile.{HasMode};
+ghost use Rattle.bn_model.specs.Walking.{access_fault, page_fault, tables_read, walk_of};
 ghost use Rattle.bn_model.specs.WalkLaws.{AllFree};
 ghost use Rattle.g_walk.specs.Answers.{reached};
 

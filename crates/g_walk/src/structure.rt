@@ -1,7 +1,8 @@
-ghost use Rattle.std.specs.Prelude.{◌≡◌, ℕ, ◌+◌, ◌*◌, ◌<◌, ◌≤◌, ◌^◌, ◌%◌, Ok, Some, false, length, IfOk, IfSome, IfNone};
-ghost use Rattle.bn_model.specs.Walking.{HasMode, canonical, entry_at, found_leaf, guest_page, index_of, leaf_of, tables_read, walk_bare, walk_from};
+ghost use Rattle.std.specs.Prelude.{◌≡◌, ℕ, ◌+◌, ◌*◌, ◌<◌, ◌≤◌, ◌^◌, ◌%◌, List, Ok, Some, [], false, length, IfOk, IfSome, IfNone};
+ghost use Rattle.bn_model.specs.CsrFile.{HasMode};
+ghost use Rattle.bn_model.specs.Walking.{canonical, entry_at, found_leaf, guest_page, index_of, leaf_of, tables_read, walk_bare, walk_from};
 ghost use Rattle.bn_model.specs.WalkLaws.{AllFree};
-ghost use Rattle.g_walk.specs.Answers.{found, landing, table_word};
+ghost use Rattle.g_walk.specs.Answers.{ended, found, landing, table_word};
 
 use crate::entry::{EntryKind, kind_of, ppn_in};
 use crate::{Leaf, LeafFault};
@@ -14,6 +15,13 @@ use std::sync::ledger::Ledger;
 struct TableEntry {
     page: Gpn,
     word: u64,
+}
+
+/// Where the tables end: the physical page number, and bits 7:0 of the leaf entry.
+#[derive(Clone, Copy)]
+struct WalkEnd {
+    ppn: u64,
+    flags: u8,
 }
 
 /// The structural walk of the virtual address `va` by `satp`: the leaf that the tables lead to, without
@@ -45,7 +53,30 @@ pub fn leaf<P: Pages, L: Ledger>(
     if !is_canonical(va) {
         return Err(LeafFault::Page);
     }
-    descend(pages, va, 2, satp % (1 << 44), ArrayVec::new(), steps)
+    walk_tables(pages, va, satp % (1 << 44), steps)
+}
+
+/// The leaf that the tables lead to, from the root's page on.
+fn walk_tables<P: Pages, L: Ledger>(
+    pages: &P,
+    va: u64,
+    root: u64,
+    steps: &mut Steps<L>,
+) -> Result<Leaf, LeafFault>
+    requires few { length (P.visible pages.now) ≤ 4096 }
+    ensures leaf { found result ≡ (walk_from (P.visible pages.now) va 2 root []).found }
+    ensures steps { steps.new ≡ steps.old + 4 * length (walk_from (P.visible pages.now) va 2 root []).read }
+{
+    let mut tables = ArrayVec::new();
+    match descend(pages, va, 2, root, &mut tables, steps) {
+        Ok(end) => Ok(Leaf {
+            ppn: end.ppn,
+            flags: end.flags,
+            bare: false,
+            tables,
+        }),
+        Err(fault) => Err(fault),
+    }
 }
 
 /// The address's own page.
@@ -109,32 +140,32 @@ fn read_entry<P: Pages, L: Ledger>(
 
 /// What the walk finds at a leaf entry of the level. A superpage takes its low page number from the
 /// address.
-fn leaf_at(va: u64, level: u8, entry: u64, tables: ArrayVec<Gpn, 3>) -> Leaf
+fn end_at(va: u64, level: u8, entry: u64) -> WalkEnd
     requires { level ≤ 2 }
-    ensures { Ok (landing result) ≡ (found_leaf va level entry tables.items).found }
+    ensures { (tables : List Gpn) → ended (Ok result) tables ≡ (found_leaf va level entry tables).found }
 {
-    Leaf {
+    WalkEnd {
         ppn: ppn_in(entry) + (va >> 12) % (1 << (9 * level)),
         flags: (entry % 256) as u8,
-        bare: false,
-        tables,
     }
 }
 
-/// Walks on from the table of a level, on the page with number `ppn`, having read `tables`.
+/// Walks on from the table of a level, on the page with number `ppn`, and appends the pages whose entries it
+/// reads to those that were read.
 fn descend<P: Pages, L: Ledger>(
     pages: &P,
     va: u64,
     level: u8,
     ppn: u64,
-    mut tables: ArrayVec<Gpn, 3>,
+    tables: &mut ArrayVec<Gpn, 3>,
     steps: &mut Steps<L>,
-) -> Result<Leaf, LeafFault>
-    requires room { length tables.items + level ≤ 2 }
+) -> Result<WalkEnd, LeafFault>
+    requires room { length tables.old.items + level ≤ 2 }
     requires few { length (P.visible pages.now) ≤ 4096 }
-    ensures leaf { found result ≡ (walk_from (P.visible pages.now) va level ppn tables.items).found }
-    ensures steps { let walk = walk_from (P.visible pages.now) va level ppn tables.items in
-        steps.new + 4 * length tables.items ≡ steps.old + 4 * length walk.read }
+    ensures leaf { ended result tables.new.items
+        ≡ (walk_from (P.visible pages.now) va level ppn tables.old.items).found }
+    ensures steps { let walk = walk_from (P.visible pages.now) va level ppn tables.old.items in
+        steps.new + 4 * length tables.old.items ≡ steps.old + 4 * length walk.read }
 {
     let Some(entry) = read_entry(pages, va, level, ppn, steps) else {
         return Err(LeafFault::Refused);
@@ -142,7 +173,7 @@ fn descend<P: Pages, L: Ledger>(
     tables.push(entry.page);
     match kind_of(level, entry.word) {
         EntryKind::Invalid => Err(LeafFault::Page),
-        EntryKind::Leaf => Ok(leaf_at(va, level, entry.word, tables)),
+        EntryKind::Leaf => Ok(end_at(va, level, entry.word)),
         EntryKind::Pointer => descend(pages, va, level - 1, ppn_in(entry.word), tables, steps),
     }
 }

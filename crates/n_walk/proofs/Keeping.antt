@@ -2,13 +2,13 @@
 use Rattle.std.proofs.Common.{◌≡◌, ℕ, ◌+◌, ◌%◌, ◌<◌, ◌≤◌, ◌⊎◌, List, [], Option, Some, None, length, set, inl, inr, refl, sym, ap, subst, ◌∙◌, arith, get_or-set_same, get_or-set_other}
 use Rattle.std.proofs.lemmas.Bool.{cases_eq}
 use Rattle.std.proofs.lemmas.List.{length-set}
-use Rattle.bn_types.specs.Numbers.{page_at, bytes_of, with_number}
+use Rattle.bn_types.specs.Numbers.{AreWhole, page_at, bytes_of, with_number}
 use Rattle.bn_types.specs.declared.width.Width.{Width}
 use Rattle.bn_types.specs.declared.frame.Frame.{Frame}
 use Rattle.bn_types.specs.declared.width.Width.TheVariants.{B1, B2, B4, B8}
 use Rattle.bn_model.specs.Nesting.{Nested, IsNested, table_frames, place, placed_in, page_in, contents_in}
-use Rattle.bn_model.proofs.PageNumbers.{length-with_number}
-use Rattle.bn_model.proofs.NestingLaws.{placed-inside, contents-set}
+use Rattle.bn_model.proofs.PageNumbers.{length-with_number, length-zero_page}
+use Rattle.bn_model.proofs.NestingLaws.{placed-inside, contents-set, get_or-contents, length-contents}
 use Rattle.bn_model.proofs.PlacingLaws.{placed-past, tree-past}
 use Rattle.n_walk.specs.Holding.{Holds, IsPool, listed}
 
@@ -113,3 +113,13 @@ size-written n page frame width offset value h e aligned inside =
     fits B2 a = omega arith
     fits B4 a = omega arith
     fits B8 a = omega arith
+
+-- each page has the size of a frame
+pub whole-contents : (n : Nested) → Holds n → AreWhole (contents_in n.ram n.frames)
+whole-contents n h page lt =
+    let inside : page < n.ram = subst (λ (k : ℕ). page < k) (length-contents n.ram n.frames) lt in
+    ap length (get_or-contents n.ram n.frames page [] inside) ∙ size (place n page) refl
+  where
+    size : (p : Option Frame) → place n page ≡ p → length (page_in n.frames p) ≡ 4096
+    size None e = length-zero_page
+    size (Some frame) e = h.sizes frame.0 (h.nested.inside page frame e)

@@ -1,5 +1,5 @@
 ghost use Rattle.std.specs.Prelude.{◌≡◌, ℕ, ◌+◌, ◌-◌, ◌*◌, ◌/◌, ◌%◌, ◌^◌, ◌<◌, ◌≤◌, ◌↔◌, ◌≢◌, List, None, Some, length, replicate, slice_set, IfOk, OnOk, OnErr, IsOk, IsErr};
-ghost use Rattle.bn_types.specs.Numbers.{bytes_of, number_at, page_at, with_number, zero_page};
+ghost use Rattle.bn_types.specs.Numbers.{AreWhole, bytes_of, number_at, page_at, with_number, zero_page};
 ghost use Rattle.bn_types.specs.declared.frame.Frame.{Frame};
 ghost use Rattle.bn_model.specs.Nesting.{entry_at, low_entry, led, with_entry, pointer_to, low_tables, contents, place, table_frames, words_walked, IsNested, IsFree, NoneFree};
 ghost use Rattle.n_walk.specs.Building.{numbered, with_pointers};
@@ -56,6 +56,17 @@ impl Nest {
         }
     }
 
+    /// How many pages RAM has, from 1 to 4,096.
+    pub fn ram_pages(&self) -> u32
+        ensures value { result ≡ self.now.ram }
+        ensures range { (0 < result) × (result ≤ 4096) }
+        ensures nested { IsNested self.now }
+        ensures whole { AreWhole (contents self.now) }
+        ensures count { length (contents self.now) ≡ result }
+    {
+        self.ram_pages
+    }
+
     /// The frame of a page, by a walk of the nested tables: three words read for a page in RAM, and none for
     /// others. None where the page is outside RAM or has no frame.
     pub fn look<L: Ledger>(&self, page: Gpn, steps: &mut Steps<L>) -> Option<Frame>
@@ -91,6 +102,7 @@ impl Nest {
         ensures placed { IfOk result (λ frame. place self.new page.0 ≡ Some frame) }
         ensures others { (other : ℕ) → other ≢ page.0 → place self.new other ≡ place self.old other }
         ensures contents { contents self.new ≡ contents self.old }
+        ensures nested { IsNested self.new }
         ensures ram { self.new.ram ≡ self.old.ram }
         ensures some { 0 < length self.old.free → IsOk result }
         ensures count { OnOk result (length self.new.free + 1 ≡ length self.old.free) }
@@ -153,6 +165,7 @@ impl Nest {
         ensures written { (page : ℕ) → place self.old page ≡ Some frame
             → (let bytes = with_number width (page_at (contents self.old) page) offset value in
             contents self.new ≡ slice_set (contents self.old) page bytes) }
+        ensures nested { IsNested self.new }
         ensures places { (page : ℕ) → place self.new page ≡ place self.old page }
         ensures ram { self.new.ram ≡ self.old.ram }
         ensures free { self.new.free ≡ self.old.free }
@@ -165,6 +178,7 @@ impl Nest {
         requires { (page : ℕ) × (place self.old page ≡ Some frame) }
         ensures written { (page : ℕ) → place self.old page ≡ Some frame
             → contents self.new ≡ slice_set (contents self.old) page zero_page }
+        ensures nested { IsNested self.new }
         ensures places { (page : ℕ) → place self.new page ≡ place self.old page }
         ensures ram { self.new.ram ≡ self.old.ram }
         ensures free { self.new.free ≡ self.old.free }

@@ -1,5 +1,5 @@
 ghost use Rattle.std.specs.Prelude.{◌≡◌, ◌%◌, Some, true};
-ghost use Rattle.bn_model.specs.CsrFile.{Sstatus, Sie, Stvec, Satp, csr_of, csr_read, csr_write, csr_written, is_satp_mode, reset_csrs, satp_mode, sstatus_value, value_if_known, written_if_known};
+ghost use Rattle.bn_model.specs.CsrFile.{HasMode, Sstatus, Sie, Stvec, Satp, csr_of, csr_read, csr_write, csr_written, reset_csrs, sstatus_value, value_if_known, written_if_known};
 ghost use Rattle.bn_model.specs.Trapping.{after_software, after_sret, after_trap, interrupt_if, interrupt_taken, trap_target};
 ghost use Rattle.rv_csr.specs.Outcomes.{ReadsCsr, WritesCsr};
 
@@ -84,7 +84,7 @@ impl Csrs {
     /// `satp`, whose MODE is 0 (Bare) or 8 (Sv39).
     pub fn satp(&self) -> u64
         ensures value { result ≡ self.now.satp }
-        ensures mode { is_satp_mode (satp_mode result) ≡ true }
+        ensures mode { HasMode result }
     {
         self.satp
     }

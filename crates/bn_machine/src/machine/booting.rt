@@ -1,35 +1,71 @@
 //! A machine as it begins.
-ghost use Rattle.std.specs.Prelude.{◌≡◌, ◌*◌, ◌%◌, ◌<◌, ◌≤◌, ◌++◌, ◌∷◌, [], IfOk, OnOk, length, slice_set};
-ghost use Rattle.bn_types.specs.Numbers.{page_at};
+ghost use Rattle.std.specs.Prelude.{◌≡◌, ◌≢◌, ◌+◌, ◌*◌, ◌%◌, ◌<◌, ◌≤◌, ◌++◌, ◌∷◌, ℕ, [], None, Some, false, IfOk, OnOk, length, replicate, slice_set};
+ghost use Rattle.bn_types.specs.Numbers.{page_at, zero_page};
+ghost use Rattle.bn_model.specs.Nesting.{contents, place, table_frames};
 ghost use Rattle.bn_model.specs.Opening as flat;
-ghost use Rattle.bn_machine.specs.Within.{AreWhole};
+ghost use Rattle.bn_model.specs.Standing.{StandsFor};
+ghost use Rattle.bn_unit.specs.Memory.{AllPlaced};
 
 use crate::hart::Hart;
 use crate::machine::Machine;
 use crate::{Loaded, Settings};
 use bn_frames::Frames;
-use bn_types::{Frame, NoMemory, Width};
+use bn_types::{Frame, Gpn, NoMemory, Width};
+use bn_unit::Unit;
+use n_walk::{Nest, PoolEmpty};
 use std::alloc::Global;
+
+/// Frames that are free when all pages are placed.
+const SPARE_FRAMES: u32 = 16;
 
 impl Machine {
     /// The machine with the image in its RAM and hart 0 at the image's entry.
+    #[tactic(auto, unfolding(bn_model::specs::Opening::opening))]
     pub fn boot(alloc: Global, settings: Settings, image: &Loaded) -> Result<Machine, NoMemory>
         requires pages { (0 < settings.ram_pages) × (settings.ram_pages ≤ 4096) }
         requires harts { (0 < settings.harts) × (settings.harts ≤ 4) }
         requires whole { length image.now.bytes.items ≡ 4096 * settings.ram_pages }
         requires entry { image.now.entry % 4 ≡ 0 }
-        ensures { IfOk result (λ machine. machine.state
+        ensures opens { IfOk result (λ machine. machine.state
             ≡ flat.opening settings.ram_pages settings.harts image.now.bytes.items image.now.entry) }
+        ensures stands { IfOk result (λ machine. StandsFor machine.parts
+            (flat.opening settings.ram_pages settings.harts image.now.bytes.items image.now.entry)) }
     {
-        let mut ram = Frames::zeroed(alloc, settings.ram_pages)?;
-        fill(&mut ram, &image.bytes);
-        Ok(Machine {
-            ram,
-            harts: start_harts(alloc, settings.harts, image.entry)?,
-            clock: 0,
-            off: false,
-        })
+        let frames = Frames::zeroed(alloc, count_frames(settings.ram_pages))?;
+        let nest = place_image(frames, settings.ram_pages, &image.bytes);
+        let unit = Unit::build(alloc, nest, settings.ram_pages, settings.harts)?;
+        let harts = start_harts(alloc, settings.harts, image.entry)?;
+        let machine = assemble(unit, harts);
+        machine.stand();
+        Ok(machine)
     }
+}
+
+/// The machine of a unit and harts that has made no event.
+fn assemble(unit: Unit, harts: Vec<Hart>) -> Machine
+    ensures nest { result.parts.nest ≡ unit.nest }
+    ensures state { result.state ≡ record {
+      pages = contents unit.nest;
+      harts = harts.items;
+      clock = 0;
+      off = false;
+    } }
+{
+    let _pages = unit.ram_pages();
+    Machine {
+        unit,
+        harts,
+        clock: 0,
+        off: false,
+    }
+}
+
+/// As many frames as the nested tables have, one for each page, and some to spare.
+fn count_frames(ram_pages: u32) -> u32
+    requires { ram_pages ≤ 4096 }
+    ensures { result ≡ table_frames ram_pages + ram_pages + 16 }
+{
+    5 + ram_pages.div_ceil(512) + ram_pages + SPARE_FRAMES
 }
 
 /// Hart 0 is started at the entry; the others rest.
@@ -55,27 +91,55 @@ fn push_hart(harts: &mut Vec<Hart>, hart: Hart) -> Result<(), NoMemory>
     }
 }
 
-/// Writes the bytes to the frames in order.
-fn fill(ram: &mut Frames, bytes: &[u8])
-    requires size { length bytes.now ≡ 4096 * length ram.old }
-    requires few { length ram.old ≤ 4096 }
-    requires whole { AreWhole ram.old }
-    ensures { ram.new ≡ flat.pages_of (length ram.old) bytes.now }
+/// Places all pages of RAM, with the bytes in them.
+fn place_image(frames: Frames, ram_pages: u32, bytes: &[u8]) -> Nest
+    requires pages { (0 < ram_pages) × (ram_pages ≤ 4096) }
+    requires frames { frames ≡ replicate (table_frames ram_pages + ram_pages + 16) zero_page }
+    requires size { length bytes.now ≡ 4096 * ram_pages }
+    ensures contents { contents result ≡ flat.pages_of ram_pages bytes.now }
+    ensures ram { result.ram ≡ ram_pages }
+    ensures spare { 0 < length result.free }
+    ensures placed { AllPlaced result }
 {
-    for page in 0..ram.count() {
-        let start = page as usize * 4096;
-        fill_page(ram, Frame(page), &bytes[start..start + 4096]);
+    let mut nest = Nest::build(frames, ram_pages);
+    for number in 0..ram_pages {
+        let page = Gpn(number);
+        let frame = place_page(&mut nest, page);
+        let start = number as usize * 4096;
+        fill_page(&mut nest, page, frame, &bytes[start..start + 4096]);
+    }
+    nest
+}
+
+/// Leads a page of RAM to a free frame of zeros.
+fn place_page(nest: &mut Nest, page: Gpn) -> Frame
+    requires inside { page.0 < nest.old.ram }
+    requires unplaced { place nest.old page.0 ≡ None }
+    requires spare { 0 < length nest.old.free }
+    ensures placed { place nest.new page.0 ≡ Some result }
+    ensures others { (other : ℕ) → other ≢ page.0 → place nest.new other ≡ place nest.old other }
+    ensures contents { contents nest.new ≡ contents nest.old }
+    ensures ram { nest.new.ram ≡ nest.old.ram }
+    ensures count { length nest.new.free + 1 ≡ length nest.old.free }
+{
+    match nest.map(page) {
+        Ok(frame) => frame,
+        Err(PoolEmpty) => unreachable!(),
     }
 }
 
-/// Writes the bytes to the frame.
-fn fill_page(ram: &mut Frames, frame: Frame, bytes: &[u8])
-    requires frame { frame.0 < length ram.old }
+/// Writes 4,096 bytes to the frame of a page.
+fn fill_page(nest: &mut Nest, page: Gpn, frame: Frame, bytes: &[u8])
+    requires placed { place nest.old page.0 ≡ Some frame }
+    requires inside { page.0 < length (contents nest.old) }
     requires size { length bytes.now ≡ 4096 }
-    requires whole { length (page_at ram.old frame.0) ≡ 4096 }
-    ensures { ram.new ≡ slice_set ram.old frame.0 bytes.now }
+    requires whole { length (page_at (contents nest.old) page.0) ≡ 4096 }
+    ensures contents { contents nest.new ≡ slice_set (contents nest.old) page.0 bytes.now }
+    ensures places { (other : ℕ) → place nest.new other ≡ place nest.old other }
+    ensures ram { nest.new.ram ≡ nest.old.ram }
+    ensures free { nest.new.free ≡ nest.old.free }
 {
     for offset in 0..4096u16 {
-        ram.put(frame, offset, Width::B1, u64::from(bytes[offset as usize]));
+        nest.store(frame, offset, Width::B1, u64::from(bytes[offset as usize]));
     }
 }

@@ -1,122 +1,28 @@
-//! Turns that are made.
-ghost use Rattle.std.specs.Prelude.{◌≡◌, ◌-◌, ◌^◌, ◌<◌, ◌%◌, ◌↔◌, [], IsOk, IsTrue, false, length, Ok};
+//! What turns come to, made: each of these ends an event.
+ghost use Rattle.std.specs.Prelude.{◌≡◌, ◌-◌, ◌^◌, ◌<◌, ◌%◌, [], length};
+ghost use Rattle.bn_model.specs.Decision as turn;
 ghost use Rattle.bn_model.specs.Spelling.{text_of};
 ghost use Rattle.bn_model.specs.Stepping as flat;
-ghost use Rattle.bn_machine.specs.Within.{CanBeMade, Fits, IsWithin};
 
+use crate::LineBuf;
 use crate::machine::Machine;
-use crate::{LineBuf, Unbuilt};
-use bn_model::{Decision, Place};
-use bn_types::{Cause, Event, Frame, Line, Reg, Steps, Width};
-use std::sync::ledger::Ledger;
+use bn_types::{Cause, Line, Reg};
+use rv_csr::Csrs;
 
 impl Machine {
-    /// Makes one event and leaves its lines.
-    ///
-    /// `Unbuilt` comes exactly where the event needs a part that isn't built yet; then nothing changes, and
-    /// no line is left.
-    #[tactic(auto, unfolding(bn_model::specs::Stepping::step, bn_model::specs::Stepping::lines, bn_model::specs::Stepping::is_built_event))]
-    pub fn turn<L: Ledger>(
-        &mut self,
-        event: Event,
-        lines: &mut LineBuf,
-        steps: &mut Steps<L>,
-    ) -> Result<(), Unbuilt>
-        requires on { self.old.state.off ≡ false }
-        requires fits { Fits self.old.state event }
-        requires clock { self.old.state.clock < 2 ^ 64 - 1 }
-        ensures built { IsOk result ↔ IsTrue (flat.is_built_event self.old.state event) }
-        ensures stepped { self.new.state ≡ flat.step self.old.state event }
-        ensures told { lines.new ≡ text_of (flat.lines self.old.state event) }
-        ensures unread { steps.new ≡ steps.old }
-    {
-        lines.clear();
-        match event {
-            Event::Turn(hart) => self.make(hart, self.decide(hart), lines),
-            _ => Err(Unbuilt),
-        }
-    }
-
-    fn make(&mut self, hart: u8, decision: Decision, lines: &mut LineBuf) -> Result<(), Unbuilt>
-        requires hart { hart < length self.old.state.harts }
-        requires clock { self.old.state.clock < 2 ^ 64 - 1 }
-        requires can { CanBeMade (length self.old.state.pages) decision }
-        requires empty { lines.old ≡ [] }
-        ensures built { IsOk result ↔ IsTrue (flat.is_built_turn decision) }
-        ensures stepped { self.new.state ≡ flat.after_turn self.old.state hart decision }
-        ensures told { lines.new ≡ text_of (flat.lines_of_turn self.old.state hart decision) }
-    {
-        match decision {
-            Decision::Unbuilt => Err(Unbuilt),
-            Decision::Rest => {
-                self.rest();
-                Ok(())
-            }
-            Decision::Trap { cause, value } => {
-                self.trap(hart, cause, value, lines);
-                Ok(())
-            }
-            Decision::Next => {
-                self.go_on(hart);
-                Ok(())
-            }
-            Decision::Set { rd, value } => {
-                self.set(hart, rd, value);
-                Ok(())
-            }
-            Decision::Jump { target, rd, link } => {
-                self.jump(hart, target, rd, link);
-                Ok(())
-            }
-            Decision::Store {
-                place,
-                width,
-                value,
-            } => {
-                self.store(hart, place, width, value);
-                Ok(())
-            }
-            Decision::WriteCsr {
-                number,
-                value,
-                rd,
-                old,
-            } => {
-                self.write_csr(hart, number, value, rd, old);
-                Ok(())
-            }
-            Decision::Return => {
-                self.return_from_trap(hart);
-                Ok(())
-            }
-            Decision::Put { byte } => {
-                self.put(hart, byte, lines);
-                Ok(())
-            }
-            Decision::Answer { error } => {
-                self.answer(hart, error);
-                Ok(())
-            }
-            Decision::ShutDown => {
-                self.shut_down(hart);
-                Ok(())
-            }
-        }
-    }
-
-    fn rest(&mut self)
+    pub(super) fn rest(&mut self)
         requires { self.old.state.clock < 2 ^ 64 - 1 }
-        ensures { self.new.state ≡ flat.after_turn self.old.state 0 Decision.Rest }
+        ensures { self.new.state ≡ flat.after_turn self.old.state 0 turn.Rest }
     {
         self.clock += 1;
     }
 
-    fn trap(&mut self, hart: u8, cause: Cause, value: u64, lines: &mut LineBuf)
+    pub(super) fn trap(&mut self, hart: u8, cause: Cause, value: u64, lines: &mut LineBuf)
         requires hart { hart < length self.old.state.harts }
         requires clock { self.old.state.clock < 2 ^ 64 - 1 }
         requires empty { lines.old ≡ [] }
-        ensures stepped { self.new.state ≡ flat.after_turn self.old.state hart (Decision.Trap cause value) }
-        ensures told { lines.new ≡ text_of (flat.lines_of_turn self.old.state hart (Decision.Trap cause value)) }
+        ensures stepped { self.new.state ≡ flat.after_turn self.old.state hart (turn.Trap cause value) }
+        ensures told { lines.new ≡ text_of (flat.lines_of_turn self.old.state hart (turn.Trap cause value)) }
     {
         lines.push(&Line::Trap {
             n: self.clock,
@@ -128,73 +34,61 @@ impl Machine {
         self.clock += 1;
     }
 
-    fn go_on(&mut self, hart: u8)
+    pub(super) fn go_on(&mut self, hart: u8)
         requires hart { hart < length self.old.state.harts }
         requires clock { self.old.state.clock < 2 ^ 64 - 1 }
-        ensures { self.new.state ≡ flat.after_turn self.old.state hart Decision.Next }
+        ensures { self.new.state ≡ flat.after_turn self.old.state hart turn.Next }
     {
         self.harts[hart as usize].go_on();
         self.clock += 1;
     }
 
-    fn set(&mut self, hart: u8, rd: Reg, value: u64)
+    pub(super) fn set(&mut self, hart: u8, rd: Reg, value: u64)
         requires hart { hart < length self.old.state.harts }
         requires clock { self.old.state.clock < 2 ^ 64 - 1 }
         requires register { rd.0 < 32 }
-        ensures { self.new.state ≡ flat.after_turn self.old.state hart (Decision.Set rd value) }
+        ensures { self.new.state ≡ flat.after_turn self.old.state hart (turn.Set rd value) }
     {
         self.harts[hart as usize].go_on_with(rd, value);
         self.clock += 1;
     }
 
-    fn jump(&mut self, hart: u8, target: u64, rd: Reg, link: u64)
+    pub(super) fn jump(&mut self, hart: u8, target: u64, rd: Reg, link: u64)
         requires hart { hart < length self.old.state.harts }
         requires clock { self.old.state.clock < 2 ^ 64 - 1 }
         requires register { rd.0 < 32 }
         requires aligned { target % 4 ≡ 0 }
-        ensures { self.new.state ≡ flat.after_turn self.old.state hart (Decision.Jump target rd link) }
+        ensures { self.new.state ≡ flat.after_turn self.old.state hart (turn.Jump target rd link) }
     {
         self.harts[hart as usize].jump(target, rd, link);
         self.clock += 1;
     }
 
-    fn store(&mut self, hart: u8, place: Place, width: Width, value: u64)
-        requires hart { hart < length self.old.state.harts }
-        requires clock { self.old.state.clock < 2 ^ 64 - 1 }
-        requires within { IsWithin (length self.old.state.pages) place width }
-        ensures { self.new.state ≡ flat.after_turn self.old.state hart (Decision.Store place width value) }
-    {
-        self.ram
-            .put(Frame(place.page.0), place.offset, width, value);
-        self.harts[hart as usize].go_on();
-        self.clock += 1;
-    }
-
-    fn write_csr(&mut self, hart: u8, number: u16, value: u64, rd: Reg, old: u64)
+    pub(super) fn set_csrs(&mut self, hart: u8, rd: Reg, old: u64, csrs: Csrs)
         requires hart { hart < length self.old.state.harts }
         requires clock { self.old.state.clock < 2 ^ 64 - 1 }
         requires register { rd.0 < 32 }
-        ensures { self.new.state ≡ flat.after_turn self.old.state hart (Decision.WriteCsr number value rd old) }
+        ensures { self.new.state ≡ flat.after_turn self.old.state hart (turn.Csr rd old csrs) }
     {
-        self.harts[hart as usize].change_csr(number, value, rd, old);
+        self.harts[hart as usize].set_csrs(rd, old, csrs);
         self.clock += 1;
     }
 
-    fn return_from_trap(&mut self, hart: u8)
+    pub(super) fn return_from_trap(&mut self, hart: u8)
         requires hart { hart < length self.old.state.harts }
         requires clock { self.old.state.clock < 2 ^ 64 - 1 }
-        ensures { self.new.state ≡ flat.after_turn self.old.state hart Decision.Return }
+        ensures { self.new.state ≡ flat.after_turn self.old.state hart turn.Return }
     {
         self.harts[hart as usize].return_from_trap();
         self.clock += 1;
     }
 
-    fn put(&mut self, hart: u8, byte: u8, lines: &mut LineBuf)
+    pub(super) fn put(&mut self, hart: u8, byte: u8, lines: &mut LineBuf)
         requires hart { hart < length self.old.state.harts }
         requires clock { self.old.state.clock < 2 ^ 64 - 1 }
         requires empty { lines.old ≡ [] }
-        ensures stepped { self.new.state ≡ flat.after_turn self.old.state hart (Decision.Put byte) }
-        ensures told { lines.new ≡ text_of (flat.lines_of_turn self.old.state hart (Decision.Put byte)) }
+        ensures stepped { self.new.state ≡ flat.after_turn self.old.state hart (turn.Put byte) }
+        ensures told { lines.new ≡ text_of (flat.lines_of_turn self.old.state hart (turn.Put byte)) }
     {
         lines.push(&Line::Out {
             n: self.clock,
@@ -205,19 +99,19 @@ impl Machine {
         self.clock += 1;
     }
 
-    fn answer(&mut self, hart: u8, error: u64)
+    pub(super) fn answer(&mut self, hart: u8, error: u64)
         requires hart { hart < length self.old.state.harts }
         requires clock { self.old.state.clock < 2 ^ 64 - 1 }
-        ensures { self.new.state ≡ flat.after_turn self.old.state hart (Decision.Answer error) }
+        ensures { self.new.state ≡ flat.after_turn self.old.state hart (turn.Answer error) }
     {
         self.harts[hart as usize].answer(error);
         self.clock += 1;
     }
 
-    fn shut_down(&mut self, hart: u8)
+    pub(super) fn shut_down(&mut self, hart: u8)
         requires hart { hart < length self.old.state.harts }
         requires clock { self.old.state.clock < 2 ^ 64 - 1 }
-        ensures { self.new.state ≡ flat.after_turn self.old.state hart Decision.ShutDown }
+        ensures { self.new.state ≡ flat.after_turn self.old.state hart turn.ShutDown }
     {
         self.harts[hart as usize].go_on();
         self.off = true;

@@ -36,7 +36,6 @@ impl Machine {
             (text_of (course self.old.state (turns limit)).told)) }
         ensures failed { CanCount (O.faults out.old) →
             CountsRefusals result (O.faults out.old) (O.faults out.new) }
-        ensures unread { steps.new ≡ steps.old }
     {
         let mut lines = LineBuf::new();
         for _turn in 0..limit {

@@ -32,15 +32,14 @@ pub const CODE: [u32; 25] = [
     0x00000073, // ecall
 ];
 
-/// The lines of its trace but the last: seven instructions come before mode U, and the handler has seven.
-pub const LINES: [&str; 6] = [
+/// Its trace: seven instructions come before mode U, and the handler has seven. It stores nothing, so the digest
+/// is that of its code and zeros.
+pub const LINES: [&str; 7] = [
     "trap 7 0 0000000000000002 000000008000001c\n",
     "trap 15 0 0000000000000002 0000000080000020\n",
     "trap 23 0 0000000000000002 0000000080000024\n",
     "trap 31 0 0000000000000004 0000000080000028\n",
     "trap 39 0 0000000000000006 000000008000002c\n",
     "trap 48 0 0000000000000008 0000000080000034\n",
+    "end 57 shutdown f5e5c6836f6270d1dafe59fd3715f6490e6adffccb0a972f862f7e43aa289016\n",
 ];
-
-/// How many events it is.
-pub const EVENTS: u64 = 57;

@@ -339,9 +339,9 @@ pub const OPERANDS: [u64; 19] = [
     0x123456789abcdef,
 ];
 
-/// The lines of its trace but the last. QEMU's log of single steps has the pc of each instruction and
-/// the cause and pc of each trap; each instruction and each interrupt is an event.
-pub const LINES: [&str; 30] = [
+/// Its trace. QEMU's log of single steps has the pc of each instruction and the cause and pc of each trap; each
+/// instruction and each interrupt is an event.
+pub const LINES: [&str; 31] = [
     "trap 59777 0 8000000000000001 0000000080000338\n",
     "trap 59811 0 0000000000000003 0000000080000354\n",
     "trap 59847 0 0000000000000002 0000000080000358\n",
@@ -372,10 +372,5 @@ pub const LINES: [&str; 30] = [
     "out 60459 0 34\n",
     "out 60469 0 66\n",
     "out 60478 0 33\n",
+    "end 60483 shutdown acbaf1c37c5308f217999907de13812b6fbf7ed1399e5fb455d5178f998c4aa3\n",
 ];
-
-/// How many events it is.
-pub const EVENTS: u64 = 60483;
-
-/// SHA-256 of its RAM of 4,194,304 bytes at the end.
-pub const DIGEST: &str = "acbaf1c37c5308f217999907de13812b6fbf7ed1399e5fb455d5178f998c4aa3";

@@ -1,5 +1,5 @@
 ghost use Rattle.std.specs.Prelude.{◌≡◌, ℕ, ◌<◌, ◌≤◌, length};
-ghost use Rattle.bn_model.specs.Walking.{HasMode};
+ghost use Rattle.bn_model.specs.CsrFile.{HasMode};
 
 use super::flat::Flat;
 use crate::{Leaf, LeafFault, leaf, permit, walk};

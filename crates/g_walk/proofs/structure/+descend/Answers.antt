@@ -29,7 +29,7 @@ returns-in-Invalid-clause-steps g t c =
 
 pub returns-in-Leaf-clause-leaf : goal.returns-in-Leaf-clause-leaf
 returns-in-Leaf-clause-leaf g t c =
-    c.leaf_at.ensures ∙ ap (λ (ts : List Gpn). (found_leaf c.args.va c.args.level c.in-Some.entry.word ts).found) c.push.ensures.items ∙
+    c.end_at.ensures _ ∙ ap (λ (ts : List Gpn). (found_leaf c.args.va c.args.level c.in-Some.entry.word ts).found) c.push.ensures.items ∙
     ap (λ (w : Walked). w.found) (sym (walk-kind _ _ _ _ _ _ LeafEntry c.in-Some.ensures.entry c.in-Leaf.ensures))
 
 pub returns-in-Leaf-clause-steps : goal.returns-in-Leaf-clause-steps

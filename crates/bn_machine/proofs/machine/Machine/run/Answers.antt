@@ -11,7 +11,6 @@ pub loop-turn-init : goal.loop-turn-init
 loop-turn-init g c = record {
   underway = underway c.args.self.now.state c.args.limit (g.O.Sink.written c.args.out.now) c.requires.on c.requires.harts;
   quiet = λ can. refl;
-  unread = refl;
 }
 
 pub returns-in-Err-clause-finished : goal.returns-in-Err-clause-finished
@@ -49,7 +48,6 @@ loop-turn-preserved g c =
     record {
       underway = rw c.turn.ensures.stepped (underway_more _ c.loop-turn.self.state _ _ _ _ c.loop-turn.invariant.underway c.loop-turn-test.true _ (c.in-Ok.ensures.built.0 refl) on told);
       quiet = λ can. let before = c.loop-turn.invariant.quiet can in c.in_ok-write_all.ensures.failed (rw before can) ∙ before;
-      unread = c.turn.ensures.unread ∙ c.loop-turn.invariant.unread;
     }
 
 pub returns-clause-finished : goal.returns-clause-finished

@@ -44,3 +44,6 @@ pub returns-clause-contents : goal.returns-clause-contents
 returns-clause-contents c =
     rw (← c.self.view_is)
     (contents-mapped _ c.lead.new.frames _ c.pop.new.self.items c.in-Some.fresh c.args.page.0 (holds c) (inside c) (unplaced c) (new c))
+
+pub returns-clause-nested : goal.returns-clause-nested
+returns-clause-nested c = (invariant_of-self-2 c).nested

@@ -22,3 +22,6 @@ returns-clause-places c =
     rw (← c.self.view_is, c.put.ensures)
     (λ page. placed-past c.self.inside.ram_pages c.self.inside.frames c.args.frame.0 _ page
     (c.self.invariant.nested.apart c.requires.placed.0 c.args.frame placed))
+
+pub returns-clause-nested : goal.returns-clause-nested
+returns-clause-nested c = (invariant_of-self c).nested

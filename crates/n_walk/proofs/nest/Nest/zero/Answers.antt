@@ -20,3 +20,6 @@ returns-clause-places c =
     rw (← c.self.view_is, c.zero.ensures)
     (λ page. placed-past c.self.inside.ram_pages c.self.inside.frames c.args.frame.0 zero_page page
     (c.self.invariant.nested.apart c.requires.0 c.args.frame placed))
+
+pub returns-clause-nested : goal.returns-clause-nested
+returns-clause-nested c = (invariant_of-self c).nested

@@ -1,0 +1,2 @@
+mod host;
+mod memory;

@@ -1,0 +1,69 @@
+use crate::{Desk, DeskFault, MemDesk, MemSink, Sink, SinkFailed};
+use std::alloc::{AllocError, Global};
+use std::test::Fail;
+
+type File = (String, Vec<u8>);
+
+fn file(alloc: Global, name: &str, bytes: &[u8]) -> Result<File, AllocError> {
+    Ok((
+        String::from_str(alloc, name)?,
+        Vec::from_slice(alloc, bytes)?,
+    ))
+}
+
+/// Three files, two of them with one name.
+fn files(alloc: Global) -> Result<Vec<File>, AllocError> {
+    let mut files = Vec::new(alloc);
+    files.push(file(alloc, "a.img", b"first")?)?;
+    files.push(file(alloc, "a.img", b"second")?)?;
+    files.push(file(alloc, "b.img", b"")?)?;
+    Ok(files)
+}
+
+#[test]
+fn a_desk_gives_the_front_of_the_first_file_with_the_name(rt: HostRuntime) -> Result<(), Fail> {
+    let mut desk = MemDesk::of(files(rt.alloc())?, Vec::new(rt.alloc()));
+    let cases: [(&str, usize, Result<&[u8], DeskFault>); 6] = [
+        ("a.img", 9, Ok(b"first")),
+        ("a.img", 5, Ok(b"first")),
+        ("a.img", 2, Ok(b"fi")),
+        ("a.img", 0, Ok(b"")),
+        ("b.img", 9, Ok(b"")),
+        ("c.img", 9, Err(DeskFault::Missing)),
+    ];
+    for (name, most, want) in cases {
+        let answer = desk.read_front(rt.alloc(), name, most);
+        let given = answer.as_ref().map(|bytes| bytes.as_slice());
+        assert!(rt;
+            given == want.as_ref().map(|bytes| *bytes),
+            "at {name} {most}"
+        );
+    }
+    Ok(())
+}
+
+#[test]
+fn a_desk_fails_at_the_listed_calls(rt: HostRuntime) -> Result<(), Fail> {
+    let fails = Vec::from_slice(rt.alloc(), &[2, 3])?;
+    let mut desk = MemDesk::of(files(rt.alloc())?, fails);
+    for want in [None, Some(DeskFault::Failed), Some(DeskFault::Failed), None] {
+        assert_eq!(rt; desk.read_front(rt.alloc(), "a.img", 9).err(), want);
+    }
+    Ok(())
+}
+
+#[test]
+fn a_sink_takes_what_there_is_room_for(rt: HostRuntime) -> Result<(), Fail> {
+    let fails = Vec::from_slice(rt.alloc(), &[2])?;
+    let mut sink = MemSink::of(rt.alloc(), 8, fails).ok().ok_or("no memory")?;
+    for (want, written) in [
+        (Ok(5), b"lines".as_slice()),
+        (Err(SinkFailed), b"lines"),
+        (Ok(3), b"lineslin"),
+        (Err(SinkFailed), b"lineslin"),
+    ] {
+        assert_eq!(rt; sink.write(b"lines"), want);
+        assert_eq!(rt; sink.bytes(), written);
+    }
+    Ok(())
+}

@@ -1,0 +1,5 @@
+use Rattle.bn_machine.proofs.tests.memory_unit.a_leaf_of_two_mebibytes_is_aligned_in_the_unit.Given as goal
+
+-- the ledger is the blank's
+abbrev pub ghosts-try_superpage : goal.ghosts-try_superpage
+ghosts-try_superpage g a = record { name = a.blank.name; parts = a.blank.parts }

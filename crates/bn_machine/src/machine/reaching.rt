@@ -1,0 +1,65 @@
+//! Accesses of a hart to memory.
+ghost use Rattle.std.specs.Prelude.{◌≡◌, ◌+◌, ◌*◌, ◌^◌, ◌<◌, ◌≤◌, IfOk, length};
+ghost use Rattle.bn_types.specs.Numbers.{bytes_of};
+ghost use Rattle.bn_model.specs.Accessing.{access, loaded, stored};
+ghost use Rattle.bn_model.specs.State.{asker, hart_at};
+ghost use Rattle.bn_unit.specs.Memory.{Completes};
+
+use crate::machine::Machine;
+use bn_types::{Fault, Kind, Steps, Width};
+use std::sync::ledger::Ledger;
+
+impl Machine {
+    /// The word at hart h's pc.
+    pub(super) fn fetch<L: Ledger>(&mut self, h: u8, steps: &mut Steps<L>) -> Result<u32, Fault>
+        requires { h < length self.old.state.harts }
+        ensures word { let s = self.old.state in let hart = hart_at s h in
+            result ≡ loaded s.pages Width.B4 (access s.pages (asker h hart) Kind.Fetch hart.pc Width.B4) }
+        ensures kept { self.new ≡ self.old }
+        ensures few { steps.new ≤ steps.old + 15 }
+    {
+        let hart = &self.harts[h as usize];
+        let (who, pc) = (hart.asker(h), hart.pc());
+        self.unit.fetch(&who, pc, steps)
+    }
+
+    /// The number of a width that hart h loads from a virtual address.
+    pub(super) fn load_number<L: Ledger>(
+        &mut self,
+        h: u8,
+        va: u64,
+        width: Width,
+        steps: &mut Steps<L>,
+    ) -> Result<u64, Fault>
+        requires { h < length self.old.state.harts }
+        ensures number { let s = self.old.state in
+            result ≡ loaded s.pages width (access s.pages (asker h (hart_at s h)) Kind.Load va width) }
+        ensures fits { IfOk result (λ number. number < 2 ^ (8 * bytes_of width)) }
+        ensures kept { self.new ≡ self.old }
+        ensures few { steps.new ≤ steps.old + 15 }
+    {
+        let who = self.harts[h as usize].asker(h);
+        self.unit.load(&who, va, width, steps)
+    }
+
+    /// Hart h stores the low bytes of a value to a virtual address.
+    pub(super) fn store_number<L: Ledger>(
+        &mut self,
+        h: u8,
+        va: u64,
+        width: Width,
+        value: u64,
+        steps: &mut Steps<L>,
+    ) -> Result<(), Fault>
+        requires { h < length self.old.state.harts }
+        ensures answer { let s = self.old.state in
+            Completes result (access s.pages (asker h (hart_at s h)) Kind.Store va width) }
+        ensures stored { let s = self.old.state in
+            let reached = access s.pages (asker h (hart_at s h)) Kind.Store va width in
+            self.new.state ≡ record s { pages = stored s.pages width value reached } }
+        ensures few { steps.new ≤ steps.old + 15 }
+    {
+        let who = self.harts[h as usize].asker(h);
+        self.unit.store(&who, va, width, value, steps)
+    }
+}

@@ -1,0 +1,200 @@
+//! Turns.
+ghost use Rattle.std.specs.Prelude.{◌≡◌, ◌+◌, ◌-◌, ◌^◌, ◌<◌, ◌≤◌, ◌%◌, ◌↔◌, [], IsOk, IsTrue, None, Some, false, true, length};
+ghost use Rattle.bn_model.specs.Acting.{act_of};
+ghost use Rattle.bn_model.specs.Deciding.{decision_if_started, decision_of, decision_of_insn, decision_of_interrupt};
+ghost use Rattle.bn_model.specs.Decoding.{insn_of};
+ghost use Rattle.bn_model.specs.InsnRanges.{IsActInRange, IsInRange};
+ghost use Rattle.bn_model.specs.Interrupts.{external_pending, interrupt_of, timer_pending};
+ghost use Rattle.bn_model.specs.Spelling.{text_of};
+ghost use Rattle.bn_model.specs.Standing.{StandsFor};
+ghost use Rattle.bn_model.specs.State.{hart_at};
+ghost use Rattle.bn_model.specs.Stepping as flat;
+ghost use Rattle.bn_machine.specs.Within.{Fits, JumpsAligned};
+
+use crate::machine::Machine;
+use crate::{LineBuf, Unbuilt};
+use bn_types::{Act, Cause, Event, Insn, Steps};
+use rv_csr::Wires;
+use rv_exec::act;
+use rv_insn::decode;
+use std::sync::ledger::Ledger;
+
+/// An illegal instruction.
+pub(super) const ILLEGAL_INSTRUCTION: Cause = Cause(2);
+
+impl Machine {
+    /// Makes one event and leaves its lines.
+    ///
+    /// `Unbuilt` comes exactly where the event needs a part that isn't built yet; then nothing changes, and
+    /// no line is left.
+    #[tactic(auto, unfolding(bn_model::specs::Stepping::step, bn_model::specs::Stepping::lines, bn_model::specs::Stepping::is_built_event))]
+    pub fn turn<L: Ledger>(
+        &mut self,
+        event: Event,
+        lines: &mut LineBuf,
+        steps: &mut Steps<L>,
+    ) -> Result<(), Unbuilt>
+        requires on { self.old.state.off ≡ false }
+        requires fits { Fits self.old.state event }
+        requires clock { self.old.state.clock < 2 ^ 64 - 1 }
+        ensures built { IsOk result ↔ IsTrue (flat.is_built_event self.old.state event) }
+        ensures stepped { self.new.state ≡ flat.step self.old.state event }
+        ensures stands { StandsFor self.new.parts (flat.step self.old.state event) }
+        ensures told { lines.new ≡ text_of (flat.lines self.old.state event) }
+        ensures few { steps.new ≤ steps.old + 30 }
+    {
+        lines.clear();
+        let made = match event {
+            Event::Turn(hart) => self.take_turn(hart, lines, steps),
+            _ => Err(Unbuilt),
+        };
+        self.stand();
+        made
+    }
+
+    #[tactic(auto, unfolding(bn_model::specs::Deciding::decision_of))]
+    fn take_turn<L: Ledger>(
+        &mut self,
+        h: u8,
+        lines: &mut LineBuf,
+        steps: &mut Steps<L>,
+    ) -> Result<(), Unbuilt>
+        requires hart { h < length self.old.state.harts }
+        requires clock { self.old.state.clock < 2 ^ 64 - 1 }
+        requires empty { lines.old ≡ [] }
+        ensures built { IsOk result ↔ IsTrue (flat.is_built_turn (decision_of self.old.state h)) }
+        ensures stepped { self.new.state ≡ flat.after_turn self.old.state h (decision_of self.old.state h) }
+        ensures told { lines.new ≡ text_of (flat.lines_of_turn self.old.state h (decision_of self.old.state h)) }
+        ensures few { steps.new ≤ steps.old + 30 }
+    {
+        if self.harts[h as usize].is_started() {
+            self.interrupt_or_go_on(h, lines, steps)
+        } else {
+            self.rest();
+            Ok(())
+        }
+    }
+
+    fn interrupt_or_go_on<L: Ledger>(
+        &mut self,
+        h: u8,
+        lines: &mut LineBuf,
+        steps: &mut Steps<L>,
+    ) -> Result<(), Unbuilt>
+        requires hart { h < length self.old.state.harts }
+        requires clock { self.old.state.clock < 2 ^ 64 - 1 }
+        requires empty { lines.old ≡ [] }
+        ensures built { IsOk result ↔ IsTrue (flat.is_built_turn (decision_if_started true self.old.state h (hart_at self.old.state h))) }
+        ensures stepped { self.new.state ≡ flat.after_turn self.old.state h (decision_if_started true self.old.state h (hart_at self.old.state h)) }
+        ensures told { lines.new ≡ text_of (flat.lines_of_turn self.old.state h (decision_if_started true self.old.state h (hart_at self.old.state h))) }
+        ensures few { steps.new ≤ steps.old + 30 }
+    {
+        match self.interrupt(h) {
+            Some(cause) => {
+                self.trap(h, cause, 0, lines);
+                Ok(())
+            }
+            None => self.fetch_and_execute(h, lines, steps),
+        }
+    }
+
+    /// The interrupt that hart h takes before its next instruction.
+    fn interrupt(&self, h: u8) -> Option<Cause>
+        requires { h < length self.now.state.harts }
+        ensures { result ≡ interrupt_of self.now.state h (hart_at self.now.state h) }
+    {
+        let hart = &self.harts[h as usize];
+        hart.csrs().pending(hart.mode(), &self.wires(h))
+    }
+
+    /// The interrupts that come to hart h from outside. No key can come yet.
+    pub(super) fn wires(&self, h: u8) -> Wires
+        requires { h < length self.now.state.harts }
+        ensures timer { result.timer ≡ timer_pending self.now.state (hart_at self.now.state h) }
+        ensures external { result.external ≡ external_pending self.now.state h }
+    {
+        Wires {
+            timer: self.harts[h as usize].timer() <= self.clock,
+            external: false,
+        }
+    }
+
+    fn fetch_and_execute<L: Ledger>(
+        &mut self,
+        h: u8,
+        lines: &mut LineBuf,
+        steps: &mut Steps<L>,
+    ) -> Result<(), Unbuilt>
+        requires hart { h < length self.old.state.harts }
+        requires clock { self.old.state.clock < 2 ^ 64 - 1 }
+        requires empty { lines.old ≡ [] }
+        ensures built { IsOk result ↔ IsTrue (flat.is_built_turn (decision_of_interrupt self.old.state h (hart_at self.old.state h) None)) }
+        ensures stepped { self.new.state ≡ flat.after_turn self.old.state h (decision_of_interrupt self.old.state h (hart_at self.old.state h) None) }
+        ensures told { lines.new ≡ text_of (flat.lines_of_turn self.old.state h (decision_of_interrupt self.old.state h (hart_at self.old.state h) None)) }
+        ensures few { steps.new ≤ steps.old + 30 }
+    {
+        match self.fetch(h, steps) {
+            Ok(word) => self.execute(h, word, lines, steps),
+            Err(fault) => {
+                self.trap(h, fault.cause, fault.va, lines);
+                Ok(())
+            }
+        }
+    }
+
+    fn execute<L: Ledger>(
+        &mut self,
+        h: u8,
+        word: u32,
+        lines: &mut LineBuf,
+        steps: &mut Steps<L>,
+    ) -> Result<(), Unbuilt>
+        requires hart { h < length self.old.state.harts }
+        requires clock { self.old.state.clock < 2 ^ 64 - 1 }
+        requires empty { lines.old ≡ [] }
+        ensures built { IsOk result ↔ IsTrue (flat.is_built_turn (decision_of_insn self.old.state h (hart_at self.old.state h) (insn_of word))) }
+        ensures stepped { self.new.state ≡ flat.after_turn self.old.state h (decision_of_insn self.old.state h (hart_at self.old.state h) (insn_of word)) }
+        ensures told { lines.new ≡ text_of (flat.lines_of_turn self.old.state h (decision_of_insn self.old.state h (hart_at self.old.state h) (insn_of word))) }
+        ensures few { steps.new ≤ steps.old + 15 }
+    {
+        match decode(word) {
+            Some(insn) => self.execute_insn(h, &insn, lines, steps),
+            None => {
+                self.trap(h, ILLEGAL_INSTRUCTION, 0, lines);
+                Ok(())
+            }
+        }
+    }
+
+    fn execute_insn<L: Ledger>(
+        &mut self,
+        h: u8,
+        insn: &Insn,
+        lines: &mut LineBuf,
+        steps: &mut Steps<L>,
+    ) -> Result<(), Unbuilt>
+        requires hart { h < length self.old.state.harts }
+        requires clock { self.old.state.clock < 2 ^ 64 - 1 }
+        requires range { IsInRange insn.now }
+        requires empty { lines.old ≡ [] }
+        ensures built { IsOk result ↔ IsTrue (flat.is_built_turn (decision_of_insn self.old.state h (hart_at self.old.state h) (Some insn.now))) }
+        ensures stepped { self.new.state ≡ flat.after_turn self.old.state h (decision_of_insn self.old.state h (hart_at self.old.state h) (Some insn.now)) }
+        ensures told { lines.new ≡ text_of (flat.lines_of_turn self.old.state h (decision_of_insn self.old.state h (hart_at self.old.state h) (Some insn.now))) }
+        ensures few { steps.new ≤ steps.old + 15 }
+    {
+        let asked = self.asked(h, insn);
+        self.carry_out(h, asked, lines, steps)
+    }
+
+    /// What an instruction asks hart h for.
+    fn asked(&self, h: u8, insn: &Insn) -> Act
+        requires hart { h < length self.now.state.harts }
+        requires range { IsInRange insn.now }
+        ensures exact { let hart = hart_at self.now.state h in result ≡ act_of insn.now hart.regs hart.pc }
+        ensures range { IsActInRange result }
+        ensures aligned { JumpsAligned result }
+    {
+        let hart = &self.harts[h as usize];
+        act(insn, hart.regs(), hart.pc())
+    }
+}

@@ -1,0 +1,235 @@
+//! The memory unit over a small RAM, called as a machine calls it.
+ghost use Rattle.std.specs.Prelude.{◌≡◌, ◌≢◌, ◌+◌, ◌<◌, ℕ, None, length, replicate};
+ghost use Rattle.bn_types.specs.Numbers.{zero_page};
+ghost use Rattle.bn_model.specs.Nesting.{place};
+ghost use Rattle.bn_unit.specs.Memory.{AllPlaced};
+
+use bn_frames::Frames;
+use bn_types::{Asker, Cause, Fault, Gpn, ModId, Mode, PageState, Pages, Steps, Width};
+use bn_unit::{Unit, View};
+use n_walk::Nest;
+use std::alloc::Global;
+use std::marker::Brand;
+use std::process::Abort;
+use std::sync::ledger::{Blank, Ledger};
+
+/// Sv39 with the root in page 1.
+const SATP: u64 = 0x8000000000080001;
+
+/// What page 3 has at offset 8.
+const WORD: u64 = 0x1122334455667788;
+
+/// The root leads low addresses to page 2, and RAM to its own addresses. A leaf of 2 MiB in page 2 leads to
+/// RAM's first page, and page 3 has a word.
+const TABLES: [(u64, u64); 4] = [
+    (0x80001000, 0x20000801), // page 1, entry 0
+    (0x80001010, 0x200000cf), // page 1, entry 2
+    (0x80002000, 0x200000cf), // page 2, entry 0
+    (0x80003008, WORD),
+];
+
+/// Not the address of a page, since bits 63:39 aren't bit 38.
+const NOT_CANONICAL: u64 = 0x8000000000;
+
+/// Leads the page to a free frame.
+fn place_page(rt: &impl Abort, nest: &mut Nest, page: Gpn)
+    requires inside { page.0 < nest.old.ram }
+    requires unplaced { place nest.old page.0 ≡ None }
+    ensures placed { place nest.new page.0 ≢ None }
+    ensures others { (other : ℕ) → other ≢ page.0 → place nest.new other ≡ place nest.old other }
+    ensures ram { nest.new.ram ≡ nest.old.ram }
+    ensures count { length nest.new.free + 1 ≡ length nest.old.free }
+{
+    match nest.map(page) {
+        Ok(_) => {}
+        Err(_) => panic!(rt; "no frame"),
+    }
+}
+
+/// A nest of 16 pages that are all placed, with a frame to spare.
+fn place_all(rt: &impl Abort, frames: Frames) -> Nest
+    requires { frames ≡ replicate 23 zero_page }
+    ensures ram { result.ram ≡ 16 }
+    ensures spare { 0 < length result.free }
+    ensures placed { AllPlaced result }
+{
+    let mut nest = Nest::build(frames, 16);
+    for number in 0..16 {
+        place_page(rt, &mut nest, Gpn(number));
+    }
+    nest
+}
+
+fn unit_of(rt: &impl Abort, alloc: Global) -> Unit {
+    let frames = Frames::zeroed(alloc, 23).expect(rt, "memory");
+    let nest = place_all(rt, frames);
+    Unit::build(alloc, nest, 16, 1).expect(rt, "memory")
+}
+
+/// One who asks in mode S, in Bare.
+fn bare() -> Asker
+    ensures { result.satp ≡ 0 }
+{
+    Asker {
+        hart: 0,
+        module: ModId(0),
+        mode: Mode::S,
+        satp: 0,
+        sum: false,
+        mxr: false,
+    }
+}
+
+/// One who asks in mode S, by the tables.
+fn paged() -> Asker
+    ensures { result.satp ≡ 0x8000000000080001 }
+{
+    Asker {
+        satp: SATP,
+        ..bare()
+    }
+}
+
+fn store_word<L: Ledger>(
+    rt: &impl Abort,
+    unit: &mut Unit,
+    va: u64,
+    word: u64,
+    steps: &mut Steps<L>,
+) {
+    let stored = unit.store(&bare(), va, Width::B8, word, steps);
+    assert_eq!(rt; stored, Ok(()));
+}
+
+/// A unit with the tables.
+fn unit_with_tables<L: Ledger>(rt: &impl Abort, alloc: Global, steps: &mut Steps<L>) -> Unit {
+    let mut unit = unit_of(rt, alloc);
+    for (va, word) in TABLES {
+        store_word(rt, &mut unit, va, word, steps);
+    }
+    unit
+}
+
+fn failed(cause: u64, va: u64) -> Fault {
+    Fault {
+        cause: Cause(cause),
+        va,
+        denied: None,
+    }
+}
+
+fn try_superpage<L: Ledger>(rt: &impl Abort, alloc: Global, blank: Blank)
+    requires name { blank.name ≡ L.name }
+    requires parts { blank.parts ≡ L.parts }
+    requires some { 0 < L.parts }
+{
+    let mut steps = Steps::<L>::open(blank);
+    let mut unit = unit_with_tables(rt, alloc, &mut steps);
+    let who = paged();
+    let word = unit.load(&who, 0x3008, Width::B8, &mut steps);
+    assert_eq!(rt; word, Ok(WORD));
+    let byte = unit.load(&who, 0x300b, Width::B1, &mut steps);
+    assert_eq!(rt; byte, Ok(0x55));
+    let insn = unit.fetch(&who, 0x300c, &mut steps);
+    assert_eq!(rt; insn, Ok(0x11223344));
+
+    store_word(rt, &mut unit, 0x80002000, 0x200004cf, &mut steps);
+    let load = unit.load(&who, 0, Width::B8, &mut steps);
+    assert_eq!(rt; load, Err(failed(13, 0)));
+    let load = unit.load(&who, 0x3008, Width::B8, &mut steps);
+    assert_eq!(rt; load, Err(failed(13, 0x3008)));
+}
+
+fn try_non_canonical<L: Ledger>(rt: &impl Abort, alloc: Global, blank: Blank)
+    requires name { blank.name ≡ L.name }
+    requires parts { blank.parts ≡ L.parts }
+    requires some { 0 < L.parts }
+{
+    let mut steps = Steps::<L>::open(blank);
+    let mut unit = unit_with_tables(rt, alloc, &mut steps);
+    let who = paged();
+    let fetch = unit.fetch(&who, NOT_CANONICAL, &mut steps);
+    assert_eq!(rt; fetch, Err(failed(12, NOT_CANONICAL)));
+    let load = unit.load(&who, NOT_CANONICAL, Width::B8, &mut steps);
+    assert_eq!(rt; load, Err(failed(13, NOT_CANONICAL)));
+    let store = unit.store(&who, NOT_CANONICAL, Width::B8, 0, &mut steps);
+    assert_eq!(rt; store, Err(failed(15, NOT_CANONICAL)));
+    let load = unit.load(&who, NOT_CANONICAL + 1, Width::B2, &mut steps);
+    assert_eq!(rt; load, Err(failed(4, NOT_CANONICAL + 1)));
+}
+
+fn try_ram<L: Ledger>(rt: &impl Abort, alloc: Global, blank: Blank)
+    requires name { blank.name ≡ L.name }
+    requires parts { blank.parts ≡ L.parts }
+    requires some { 0 < L.parts }
+{
+    let mut steps = Steps::<L>::open(blank);
+    let mut unit = unit_with_tables(rt, alloc, &mut steps);
+    assert_eq!(rt; unit.ram_pages(), 16);
+    let who = paged();
+    let store = unit.store(&who, 0x300c, Width::B2, 0x99aabbcc, &mut steps);
+    assert_eq!(rt; store, Ok(()));
+    let load = unit.load(&bare(), 0x80003008, Width::B8, &mut steps);
+    assert_eq!(rt; load, Ok(0x1122bbcc55667788));
+    // the page behind RAM, which the leaf leads to, and which is at the same place in Bare
+    let load = unit.load(&who, 0x10000, Width::B4, &mut steps);
+    assert_eq!(rt; load, Err(failed(5, 0x10000)));
+    let store = unit.store(&bare(), 0x80010000, Width::B4, 0, &mut steps);
+    assert_eq!(rt; store, Err(failed(7, 0x80010000)));
+    let fetch = unit.fetch(&bare(), 0x7ffffffc, &mut steps);
+    assert_eq!(rt; fetch, Err(failed(1, 0x7ffffffc)));
+}
+
+/// Page 3.
+fn third_page() -> [u8; 4096] {
+    let mut bytes = [0; 4096];
+    bytes[8..16].copy_from_slice(&WORD.to_le_bytes());
+    bytes
+}
+
+/// Page 3 is read over other bytes.
+fn expect_third_page<L: Ledger>(rt: &impl Abort, view: &View<'_>, steps: &mut Steps<L>)
+    requires { 3 < view.now.ram }
+{
+    let mut bytes = [0xff; 4096];
+    view.read_page(Gpn(3), &mut bytes, steps);
+    assert_eq!(rt; bytes.as_slice(), third_page().as_slice());
+}
+
+fn try_view<L: Ledger>(rt: &impl Abort, alloc: Global, blank: Blank)
+    requires name { blank.name ≡ L.name }
+    requires parts { blank.parts ≡ L.parts }
+    requires some { 0 < L.parts }
+{
+    let mut steps = Steps::<L>::open(blank);
+    let unit = unit_with_tables(rt, alloc, &mut steps);
+    let view = unit.view();
+    assert_eq!(rt; view.state(Gpn(0)), PageState::Free);
+    assert_eq!(rt; view.state(Gpn(15)), PageState::Free);
+    assert_eq!(rt; view.state(Gpn(16)), PageState::Outside);
+    assert_eq!(rt; view.word(Gpn(1), 16, &mut steps), Some(0x200000cf));
+    assert_eq!(rt; view.word(Gpn(1), 8, &mut steps), Some(0));
+    assert_eq!(rt; view.word(Gpn(16), 8, &mut steps), None);
+    assert_eq!(rt; unit.ram_pages(), 16);
+    expect_third_page(rt, &view, &mut steps);
+}
+
+#[test]
+fn a_leaf_of_two_mebibytes_is_aligned_in_the_unit(rt: HostRuntime) {
+    try_superpage::<Brand>(&rt, rt.alloc(), Blank::new(1));
+}
+
+#[test]
+fn the_unit_refuses_an_address_that_is_not_canonical(rt: HostRuntime) {
+    try_non_canonical::<Brand>(&rt, rt.alloc(), Blank::new(1));
+}
+
+#[test]
+fn the_unit_ends_where_ram_ends(rt: HostRuntime) {
+    try_ram::<Brand>(&rt, rt.alloc(), Blank::new(1));
+}
+
+#[test]
+fn a_view_has_the_pages_of_ram(rt: HostRuntime) {
+    try_view::<Brand>(&rt, rt.alloc(), Blank::new(1));
+}

@@ -1,0 +1,33 @@
+-- When the parts of a machine stand for a state of the flat machine.
+use Rattle.std.specs.Prelude.{◌≡◌, ℕ, List, Bool}
+use Rattle.bn_model.specs.Nesting.{IsNested, Nested, contents}
+use Rattle.bn_model.specs.State.{Hart, State}
+
+-- the parts of a machine
+pub record Parts : Type 0 where
+  -- its frames, with the nested tables in them
+  pub nest : Nested
+  pub harts : List Hart
+  -- how many events were made
+  pub clock : ℕ
+  -- the guest has shut the machine down
+  pub off : Bool
+
+pub record StandsFor (parts : Parts) (s : State) : Type 0 where
+  -- each guest page has the bytes of its frame, and an unplaced page has zeros
+  pub contents : s.pages ≡ contents parts.nest
+  -- the bytes of the tables' frames are the tree of the placement, which leads no page to a table's frame
+  -- and no two pages to one frame
+  pub nested : IsNested parts.nest
+  pub harts : s.harts ≡ parts.harts
+  pub clock : s.clock ≡ parts.clock
+  pub off : s.off ≡ parts.off
+
+-- the state for which they stand
+abbrev pub state_of : Parts → State
+state_of parts = record {
+  pages = contents parts.nest;
+  harts = parts.harts;
+  clock = parts.clock;
+  off = parts.off;
+}

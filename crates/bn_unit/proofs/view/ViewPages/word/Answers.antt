@@ -1,0 +1,13 @@
+use Rattle.std.proofs.Common.{arith, sym, ◌∙◌}
+use Rattle.bn_model.proofs.VisiblePages.{word-unplaced, words-in_ram}
+use Rattle.bn_unit.proofs.view.ViewPages.word.Goals as goal
+
+pub returns-in-None-clause-word : goal.returns-in-None-clause-word
+returns-in-None-clause-word g c =
+    rw (← c.self.view_is)
+    (word-unplaced c.self.inside.nest.now c.args.page.0 c.args.offset (omega arith) (sym c.in-None.is ∙ c.look-frame.ensures.placed) c.requires.aligned c.requires.inside)
+
+pub returns-in-None-clause-read : goal.returns-in-None-clause-read
+returns-in-None-clause-read g c =
+    rw (← c.self.view_is)
+    (words-in_ram c.self.inside.nest.now c.args.page.0 c.args.steps.now c.tick.new.self (omega arith) (omega (arith, c.look-frame.ensures.read)))

@@ -1,0 +1,10 @@
+//! The memory unit: fetches, loads and stores of the guest by both stages of translation, over nested tables
+//! that lie in the machine's frames.
+#![tactic(auto)]
+
+pub use bn_types::Asker;
+pub use unit::Unit;
+pub use view::View;
+
+mod unit;
+mod view;

@@ -1,0 +1,294 @@
+ghost use Rattle.std.specs.Prelude.{◌≡◌, ℕ, ◌+◌, ◌%◌, ◌^◌, ◌*◌, ◌<◌, ◌≤◌, ◌==◌, Some, Err, IfOk, IsOk, length};
+ghost use Rattle.bn_types.specs.Numbers.{bytes_of};
+ghost use Rattle.bn_model.specs.Accessing.{access, loaded, read_at, stored, words_of_access, written_at};
+ghost use Rattle.bn_model.specs.Accessing as accessing;
+ghost use Rattle.bn_model.specs.Nesting.{IsNested, contents, place};
+ghost use Rattle.bn_model.specs.CsrFile.{HasMode};
+ghost use Rattle.bn_model.specs.Walking.{guest_page};
+ghost use Rattle.bn_model.specs.Walking as walking;
+ghost use Rattle.bn_unit.specs.Memory.{AllPlaced, Completes, IsWithin};
+
+use crate::View;
+use bn_model::Place;
+use bn_types::{Asker, Cause, Fault, Frame, Gpn, Kind, NoMemory, Steps, Width};
+use g_walk::walk;
+use n_walk::Nest;
+use std::alloc::Global;
+use std::marker::Model;
+use std::sync::ledger::Ledger;
+
+/// The physical page number at which RAM begins, that of guest physical address 0x80000000.
+const RAM_START: u64 = 0x80000;
+
+/// The machine's memory as harts access it: by the guest's tables, and by the nested tables that lead each
+/// guest page to a machine frame.
+#[derive(Drop)]
+pub struct Unit {
+    nest: Nest,
+}
+
+impl Model for Unit {
+    ghost use Rattle.bn_unit.specs.Memory.{AllPlaced, Memory};
+
+    ghost Value = { Memory };
+
+    ghost view = { λ u. record { nest = u.nest } };
+
+    ghost invariant = { λ u. AllPlaced u.nest };
+}
+
+impl Unit {
+    /// The unit over a nest that was built for this many pages of RAM, from 1 to 4,096, all of them placed, and
+    /// that has a frame to spare. There are 1 to 4 harts. It takes no memory yet, and is never refused.
+    pub fn build(alloc: Global, nest: Nest, ram_pages: u32, harts: u8) -> Result<Unit, NoMemory>
+        requires ram { nest.ram ≡ ram_pages }
+        requires room { 0 < length nest.free }
+        requires harts { (0 < harts) × (harts ≤ 4) }
+        requires placed { AllPlaced nest }
+        ensures { IfOk result (λ unit. unit.nest ≡ nest) }
+    {
+        Ok(Unit { nest })
+    }
+
+    /// How many pages RAM has, from 1 to 4,096.
+    pub fn ram_pages(&self) -> u32
+        ensures value { result ≡ self.now.nest.ram }
+        ensures count { length (contents self.now.nest) ≡ result }
+        ensures range { (0 < result) × (result ≤ 4096) }
+        ensures nested { IsNested self.now.nest }
+    {
+        self.nest.ram_pages()
+    }
+
+    /// Fetches the 4 bytes of the instruction at the virtual address, a multiple of 4, in the mode and by the
+    /// tables of the one who asks, whose `satp` has MODE 0 (Bare) or 8 (Sv39) (Privileged ISA, "Supervisor Cause
+    /// Register", "Virtual Address Translation Process").
+    ///
+    /// The fault has the virtual address, and the cause that is met first: 12 where the tables hold no leaf for
+    /// the address or the leaf doesn't permit the fetch, and 1 where a table, or at last the page, lies outside
+    /// RAM. A fetch costs four steps for each of the guest's tables and three for its page, so at most 15, and no
+    /// more than that where it fails.
+    pub fn fetch<L: Ledger>(
+        &mut self,
+        who: &Asker,
+        va: u64,
+        steps: &mut Steps<L>,
+    ) -> Result<u32, Fault>
+        requires mode { HasMode who.now.satp }
+        requires aligned { va % 4 ≡ 0 }
+        ensures word { let pages = contents self.old.nest in
+            result ≡ loaded pages Width.B4 (access pages who.now Kind.Fetch va Width.B4) }
+        ensures kept { self.new ≡ self.old }
+        ensures walked { IsOk result → steps.new ≡ steps.old + words_of_access (contents self.old.nest) who.now va }
+        ensures few { steps.new ≤ steps.old + 15 }
+    {
+        let place = self.reach(who, Kind::Fetch, va, Width::B4, steps)?;
+        Ok(self.read(place, Width::B4, steps) as u32)
+    }
+
+    /// Loads the number of this width at the virtual address, little endian, in the mode and by the tables of the
+    /// one who asks, whose `satp` has MODE 0 (Bare) or 8 (Sv39) (Privileged ISA, "Supervisor Cause Register",
+    /// "Virtual Address Translation Process").
+    ///
+    /// The fault has the virtual address, and cause 4 where that isn't a multiple of the width in bytes, else
+    /// the cause that is met first: 13 where the tables hold no leaf for the address or the leaf doesn't permit
+    /// the load, and 5 where a table, or at last the page, lies outside RAM. A load costs four steps for each of
+    /// the guest's tables and three for its page, so at most 15, and no more than that where it fails.
+    pub fn load<L: Ledger>(
+        &mut self,
+        who: &Asker,
+        va: u64,
+        width: Width,
+        steps: &mut Steps<L>,
+    ) -> Result<u64, Fault>
+        requires { HasMode who.now.satp }
+        ensures number { let pages = contents self.old.nest in
+            result ≡ loaded pages width (access pages who.now Kind.Load va width) }
+        ensures fits { IfOk result (λ number. number < 2 ^ (8 * bytes_of width)) }
+        ensures kept { self.new ≡ self.old }
+        ensures walked { IsOk result → steps.new ≡ steps.old + words_of_access (contents self.old.nest) who.now va }
+        ensures few { steps.new ≤ steps.old + 15 }
+    {
+        let place = self.reach(who, Kind::Load, va, width, steps)?;
+        Ok(self.read(place, width, steps))
+    }
+
+    /// Stores the low bytes of the value, as many as the width has, at the virtual address, little endian, in the
+    /// mode and by the tables of the one who asks, whose `satp` has MODE 0 (Bare) or 8 (Sv39) (Privileged ISA,
+    /// "Supervisor Cause Register", "Virtual Address Translation Process").
+    ///
+    /// The fault has the virtual address, and cause 6 where that isn't a multiple of the width in bytes, else
+    /// the cause that is met first: 15 where the tables hold no leaf for the address or the leaf doesn't permit
+    /// the store, and 7 where a table, or at last the page, lies outside RAM. Nothing is written then. A store
+    /// costs four steps for each of the guest's tables and three for its page, so at most 15, and no more than
+    /// that where it fails.
+    pub fn store<L: Ledger>(
+        &mut self,
+        who: &Asker,
+        va: u64,
+        width: Width,
+        value: u64,
+        steps: &mut Steps<L>,
+    ) -> Result<(), Fault>
+        requires { HasMode who.now.satp }
+        ensures answer { Completes result (access (contents self.old.nest) who.now Kind.Store va width) }
+        ensures stored { let pages = contents self.old.nest in
+            contents self.new.nest ≡ stored pages width value (access pages who.now Kind.Store va width) }
+        ensures nested { IsNested self.new.nest }
+        ensures ram { self.new.nest.ram ≡ self.old.nest.ram }
+        ensures walked { IsOk result → steps.new ≡ steps.old + words_of_access (contents self.old.nest) who.now va }
+        ensures few { steps.new ≤ steps.old + 15 }
+    {
+        let place = self.reach(who, Kind::Store, va, width, steps)?;
+        self.write(place, width, value, steps);
+        Ok(())
+    }
+
+    /// The guest's pages as the untrusted world reads them.
+    pub fn view(&self) -> View<'_>
+        ensures { result ≡ self.now.nest }
+    {
+        View::of(&self.nest)
+    }
+
+    /// The place that an access of the kind and width reaches.
+    #[tactic(auto, unfolding(bn_model::specs::Accessing::access, bn_model::specs::Accessing::words_of_access))]
+    fn reach<L: Ledger>(
+        &self,
+        who: &Asker,
+        kind: Kind,
+        va: u64,
+        width: Width,
+        steps: &mut Steps<L>,
+    ) -> Result<Place, Fault>
+        requires mode { HasMode who.now.satp }
+        requires fetch { kind ≡ Kind.Fetch → va % bytes_of width ≡ 0 }
+        ensures place { result ≡ access (contents self.now.nest) who.now kind va width }
+        ensures within { IfOk result (λ place. IsWithin self.now.nest.ram place width) }
+        ensures nested { IsNested self.now.nest }
+        ensures walked { IsOk result → steps.new + 3 ≡ steps.old + words_of_access (contents self.now.nest) who.now va }
+        ensures few { steps.new ≤ steps.old + 12 }
+    {
+        let ram_pages = self.nest.ram_pages();
+        if !is_aligned(kind, va, width) {
+            return Err(fault_at(va, misaligned(kind)));
+        }
+        match walk(
+            &self.view(),
+            who.satp,
+            va,
+            kind,
+            who.mode,
+            who.sum,
+            who.mxr,
+            steps,
+        ) {
+            Ok(leaf) => find_place(ram_pages, kind, va, leaf.ppn),
+            Err(cause) => Err(fault_at(va, cause)),
+        }
+    }
+
+    /// The frame of a page of RAM.
+    fn frame_of<L: Ledger>(&self, page: Gpn, steps: &mut Steps<L>) -> Frame
+        requires inside { page.0 < self.now.nest.ram }
+        ensures frame { place self.now.nest page.0 ≡ Some result }
+        ensures read { steps.new ≡ steps.old + 3 }
+    {
+        match self.nest.look(page, steps) {
+            Some(frame) => frame,
+            None => unreachable!(),
+        }
+    }
+
+    /// The number of this width at the place.
+    fn read<L: Ledger>(&self, place: Place, width: Width, steps: &mut Steps<L>) -> u64
+        requires within { IsWithin self.now.nest.ram place width }
+        ensures number { result ≡ read_at (contents self.now.nest) width place }
+        ensures fits { result < 2 ^ (8 * bytes_of width) }
+        ensures read { steps.new ≡ steps.old + 3 }
+    {
+        let frame = self.frame_of(place.page, steps);
+        self.nest.load(frame, place.offset, width)
+    }
+
+    /// Writes the low bytes of the value at the place.
+    fn write<L: Ledger>(&mut self, place: Place, width: Width, value: u64, steps: &mut Steps<L>)
+        requires within { IsWithin self.old.nest.ram place width }
+        ensures written { contents self.new.nest ≡ written_at (contents self.old.nest) width value place }
+        ensures nested { IsNested self.new.nest }
+        ensures ram { self.new.nest.ram ≡ self.old.nest.ram }
+        ensures read { steps.new ≡ steps.old + 3 }
+    {
+        let frame = self.frame_of(place.page, steps);
+        self.nest.store(frame, place.offset, width, value);
+    }
+}
+
+/// Whether an access of the kind goes to a multiple of its width where it has to. The address of a fetch is
+/// a multiple of 4 always.
+fn is_aligned(kind: Kind, va: u64, width: Width) -> bool
+    ensures { result ≡ accessing.is_aligned kind va width }
+{
+    match kind {
+        Kind::Fetch => true,
+        Kind::Load | Kind::Store => is_multiple(va, width),
+    }
+}
+
+fn is_multiple(va: u64, width: Width) -> bool
+    ensures { result ≡ (va % bytes_of width == 0) }
+{
+    match width {
+        Width::B1 => true,
+        Width::B2 => va % 2 == 0,
+        Width::B4 => va % 4 == 0,
+        Width::B8 => va % 8 == 0,
+    }
+}
+
+/// The place of an address that leads to this physical page, in a RAM of so many pages.
+fn find_place(ram_pages: u32, kind: Kind, va: u64, ppn: u64) -> Result<Place, Fault>
+    ensures place { result ≡ accessing.reached ram_pages kind va (guest_page ppn) }
+    ensures page { IfOk result (λ place. place.page.0 < ram_pages) }
+    ensures offset { IfOk result (λ place. place.offset ≡ va % 4096) }
+{
+    if ppn < RAM_START || ppn - RAM_START >= u64::from(ram_pages) {
+        return Err(fault_at(va, access_fault(kind)));
+    }
+    // The rule of admission has its place here, once modules own pages.
+    Ok(Place {
+        page: Gpn((ppn - RAM_START) as u32),
+        offset: (va % 4096) as u16,
+    })
+}
+
+fn misaligned(kind: Kind) -> Cause
+    ensures { result ≡ accessing.misaligned kind }
+{
+    match kind {
+        Kind::Fetch => Cause(0),
+        Kind::Load => Cause(4),
+        Kind::Store => Cause(6),
+    }
+}
+
+fn access_fault(kind: Kind) -> Cause
+    ensures { result ≡ walking.access_fault kind }
+{
+    match kind {
+        Kind::Fetch => Cause(1),
+        Kind::Load => Cause(5),
+        Kind::Store => Cause(7),
+    }
+}
+
+/// An access to the address that failed for this cause. No page was denied.
+fn fault_at(va: u64, cause: Cause) -> Fault
+    ensures { Err result ≡ accessing.failed cause va }
+{
+    Fault {
+        cause,
+        va,
+        denied: None,
+    }
+}
