@@ -39,7 +39,7 @@ impl Model for Unit {
 
 impl Unit {
     /// The unit over a nest that was built for this many pages of RAM, from 1 to 4,096, all of them placed, and
-    /// that has a frame to spare. There are 1 to 4 harts. It takes no memory yet, and is never refused.
+    /// that has a frame to spare. There are 1 to 4 harts. It takes no memory yet.
     pub fn build(alloc: Global, nest: Nest, ram_pages: u32, harts: u8) -> Result<Unit, NoMemory>
         requires ram { nest.ram ≡ ram_pages }
         requires room { 0 < length nest.free }
