@@ -2,36 +2,10 @@
    time it takes an illegal-instruction trap, and its handler multiplies by shifts and additions and
    returns behind the instruction. It prints `10! = 3628800` and shuts down. */
 
-typedef unsigned int u32;
-typedef unsigned long u64;
+#include "template/guest.h"
 
-/* The registers x0 to x31 of the code that took a trap. start.S fills and restores them. */
-struct frame {
-    u64 x[32];
-};
-
-enum { CONSOLE_PUTCHAR = 1 };
 enum { ILLEGAL_INSTRUCTION = 2 };
 enum { MUL = 0x02000033, MUL_MASK = 0xfe00707f };
-
-#define READ_CSR(name) ({ u64 value; asm volatile("csrr %0, " #name : "=r"(value)); value; })
-#define WRITE_CSR(name, value) asm volatile("csrw " #name ", %0" : : "r"(value))
-
-void shut_down(void) __attribute__((noreturn));
-
-/* A call to the hypervisor changes a0, and for a call that it doesn't know a1 too. */
-static void print_byte(u64 byte)
-{
-    register u64 a0 asm("a0") = byte;
-    register u64 a7 asm("a7") = CONSOLE_PUTCHAR;
-    asm volatile("ecall" : "+r"(a0) : "r"(a7) : "a1", "memory");
-}
-
-static void print_text(const char *text)
-{
-    while (*text)
-        print_byte((unsigned char)*text++);
-}
 
 /* In decimal, below 10^10: each digit counts how often its power of ten can be taken away. */
 static void print_number(u64 number)

@@ -5,19 +5,12 @@
    many faults it served, and shuts down. */
 
 #include "paging.h"
-
-typedef unsigned long u64;
-
-/* The registers x0 to x31 of the code that took a trap. */
-struct frame {
-    u64 x[32];
-};
+#include "template/guest.h"
 
 struct page {
     u64 words[PAGE_BYTES / 8];
 } __attribute__((aligned(PAGE_BYTES)));
 
-enum { CONSOLE_PUTCHAR = 1 };
 enum { CALL_FROM_MODE_U = 8, FETCH_PAGE_FAULT = 12, LOAD_PAGE_FAULT = 13, STORE_PAGE_FAULT = 15 };
 
 /* Bits of a table's entry. The machine sets neither ACCESSED nor DIRTY: where one that it wants is clear,
@@ -37,10 +30,6 @@ enum { ENTRY_PAGE_SHIFT = 10, PAGE_SHIFT = 12, LEVEL_BITS = 9 };
 static const u64 SV39 = 8ul << 60;
 static const u64 KERNEL = 0x80000000;
 
-#define READ_CSR(name) ({ u64 value; asm volatile("csrr %0, " #name : "=r"(value)); value; })
-#define WRITE_CSR(name, value) asm volatile("csrw " #name ", %0" : : "r"(value) : "memory")
-
-void shut_down(void) __attribute__((noreturn));
 void enter_process(u64 pc, u64 stack) __attribute__((noreturn));
 void trap_from_process(void);
 
@@ -52,19 +41,6 @@ static struct page frames[8];
 static u64 frames_taken;
 static u64 pages_placed;
 static u64 pages_copied;
-
-static void print_byte(u64 byte)
-{
-    register u64 a0 asm("a0") = byte;
-    register u64 a7 asm("a7") = CONSOLE_PUTCHAR;
-    asm volatile("ecall" : "+r"(a0) : "r"(a7) : "a1", "memory");
-}
-
-static void print_text(const char *text)
-{
-    while (*text)
-        print_byte((unsigned char)*text++);
-}
 
 static void __attribute__((noreturn)) stop(const char *why)
 {

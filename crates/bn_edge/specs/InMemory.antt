@@ -15,8 +15,8 @@ pub record SinkContents : Type 0 where
 abbrev pub SinkRefuses : SinkContents → Type 0
 SinkRefuses sink = Contains sink.fails (sink.calls + 1) ⊎ (length sink.bytes ≡ sink.room)
 
--- a desk: its files by name, the numbers of the calls that fail, and how many calls, misses and faults
--- there were
+-- a desk: its files by name, the numbers of the calls that fail, and how many calls, misses and
+-- faults there were
 pub record DeskContents : Type 0 where
   pub files : List (List ℕ × List ℕ)
   pub fails : List ℕ
@@ -27,3 +27,11 @@ pub record DeskContents : Type 0 where
 -- the names and bytes of files
 abbrev pub named_bytes : List (String Global × Vec ℕ Global) → List (List ℕ × List ℕ)
 named_bytes files = map (λ file. (string_bytes file.0, file.1.items)) files
+
+-- a chip: its register, the numbers of the calls that fail, and how many calls and faults there
+-- were
+pub record ChipContents : Type 0 where
+  pub register : List ℕ
+  pub fails : List ℕ
+  pub calls : ℕ
+  pub faults : ℕ

@@ -1,4 +1,11 @@
+pub mod Accounts
+pub mod Areas
+pub mod CommandLine
 pub mod Counts
+pub mod Crashes
 pub mod Files
+pub mod Host
 pub mod InMemory
+pub mod Registers
+pub mod Standings
 pub mod Written

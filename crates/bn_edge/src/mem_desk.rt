@@ -4,6 +4,7 @@ ghost use Rattle.bn_edge.specs.Files.{Agrees, file_named};
 ghost use Rattle.bn_edge.specs.InMemory.{DeskContents, named_bytes};
 
 use crate::counted::counted;
+use crate::listed::is_listed;
 use crate::{Desk, DeskFault};
 use std::alloc::Global;
 use std::marker::Model;
@@ -51,12 +52,6 @@ impl MemDesk {
     }
 }
 
-fn is_listed(fails: &[u64], call: u64) -> bool
-    ensures { IsTrue result ↔ Contains fails.now call }
-{
-    fails.contains(&call)
-}
-
 #[tactic(auto, unfolding(crate::specs::Files::file_named))]
 fn find_file<'a>(files: &'a [(String, Vec<u8>)], name: &str) -> Option<&'a [u8]>
     ensures { option_map (λ bytes. bytes.now) result ≡ file_named (named_bytes files.now) name.now }
@@ -70,20 +65,18 @@ fn find_file<'a>(files: &'a [(String, Vec<u8>)], name: &str) -> Option<&'a [u8]>
 }
 
 impl Desk for MemDesk {
-    ghost files = { λ d. Some d.files };
-
-    ghost misses = { λ d. d.misses };
-
-    ghost faults = { λ d. d.faults };
+    ghost account = { λ d. record {
+      files = Some d.files;
+      misses = d.misses;
+      faults = d.faults;
+    } };
 
     fn read_front(&mut self, alloc: Global, name: &str, most: usize) -> Result<Vec<u8>, DeskFault>
         ensures short { IfOk result (λ bytes. vec_len bytes ≤ most) }
         ensures agrees { Agrees (Some self.old.files) name.now most result }
         ensures kept { Some self.new.files ≡ Some self.old.files }
-        ensures missed { CanCount self.old.misses →
-            CountsMisses result self.old.misses self.new.misses }
-        ensures failed { CanCount self.old.faults →
-            CountsFaults result self.old.faults self.new.faults }
+        ensures missed { CountsMisses result self.old.misses self.new.misses }
+        ensures failed { CountsFaults result self.old.faults self.new.faults }
         // It fails exactly at the listed calls.
         ensures listed { CanCount self.old.calls →
             ((result ≡ Err DeskFault.Failed) ↔ Contains self.old.fails (self.old.calls + 1)) }

@@ -66,9 +66,7 @@ fn is_refused(bytes: &[u8], room: usize, fails: &[u64], call: u64) -> bool
 }
 
 impl Sink for MemSink {
-    ghost written = { λ s. Some s.bytes };
-
-    ghost faults = { λ s. s.faults };
+    ghost account = { λ s. record { written = Some s.bytes; faults = s.faults } };
 
     fn write(&mut self, piece: &[u8]) -> Result<usize, SinkFailed>
         requires { 0 < length piece.now }
@@ -77,9 +75,9 @@ impl Sink for MemSink {
         ensures ok { IfOk result (λ count.
             Some self.new.bytes ≡ appended (Some self.old.bytes) (take count piece.now)) }
         ensures err { OnErr result (Some self.new.bytes ≡ Some self.old.bytes) }
-        ensures failed { CanCount self.old.faults →
-            CountsRefusals result self.old.faults self.new.faults }
-        // It fails exactly at the listed calls and where its room is full, and else takes what fits.
+        ensures failed { CountsRefusals result self.old.faults self.new.faults }
+        // It fails exactly at the listed calls and where its room is full, and else takes what
+        // fits.
         ensures refused { CanCount self.old.calls → (IsErr result ↔ SinkRefuses self.old) }
         ensures takes { IfOk result (λ count.
             count ≡ min (length piece.now) (self.old.room - length self.old.bytes)) }

@@ -1,16 +1,14 @@
-ghost use Rattle.std.specs.Prelude.{◌≡◌, ℕ, ◌<◌, ◌≤◌, List, Option, IfOk, OnErr, length, take};
-ghost use Rattle.bn_edge.specs.Counts.{CanCount, CountsRefusals};
-ghost use Rattle.bn_edge.specs.Written.{appended};
+ghost use Rattle.std.specs.Prelude.{◌≡◌, ◌<◌, ◌≤◌, IfOk, OnErr, length, take};
+ghost use Rattle.bn_edge.specs.Accounts.{SinkAccount};
+ghost use Rattle.bn_edge.specs.Counts.{CountsRefusals};
+ghost use Rattle.bn_edge.specs.Written.{Writes};
 
 use crate::SinkFailed;
 
 /// Bytes that are written one after another. Whether a sink tells them never changes.
 pub trait Sink {
-    /// The bytes that were written, where the sink tells them.
-    ghost written: { Self → Option (List ℕ) };
-
-    /// How often writing failed.
-    ghost faults: { Self → ℕ };
+    /// What it has written, where it tells that, and its faults.
+    ghost account: { Self → SinkAccount };
 
     /// Writes a front of the piece and says how many bytes that are.
     ///
@@ -20,8 +18,8 @@ pub trait Sink {
         ensures some { IfOk result (λ count. 0 < count) }
         ensures within { IfOk result (λ count. count ≤ length piece.now) }
         ensures ok { IfOk result (λ count.
-            written self.new ≡ appended (written self.old) (take count piece.now)) }
-        ensures err { OnErr result (written self.new ≡ written self.old) }
-        ensures failed { CanCount (faults self.old) →
-            CountsRefusals result (faults self.old) (faults self.new) };
+            Writes (account self.old) (account self.new) (take count piece.now)) }
+        ensures err { OnErr result ((account self.new).written ≡ (account self.old).written) }
+        ensures failed { CountsRefusals result
+            (account self.old).faults (account self.new).faults };
 }

@@ -1,2 +1,4 @@
 mod host;
 mod memory;
+mod storage;
+mod words;

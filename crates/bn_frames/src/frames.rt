@@ -55,7 +55,8 @@ impl Frames {
         number_in(&self.pages[frame.0 as usize], offset as usize, width)
     }
 
-    /// Writes the low bytes of the value to the frame at the offset, a multiple of the width below 4,096.
+    /// Writes the low bytes of the value to the frame at the offset, a multiple of the width below
+    /// 4,096.
     pub fn put(&mut self, frame: Frame, offset: u16, width: Width, value: u64)
         requires frame { frame.0 < length self.old }
         requires aligned { offset % bytes_of width ≡ 0 }

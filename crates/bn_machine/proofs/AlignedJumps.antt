@@ -5,12 +5,13 @@ use Rattle.bn_types.specs.declared.insn.Insn.{Insn}
 use Rattle.bn_types.specs.declared.insn.Insn.TheVariants.{Lui, Auipc, Jal, Jalr, Branch, Load, Store, Imm, Shift, Reg2, AddiW, ShiftW, Reg2W, Fence, Csr, Ecall, Ebreak, Sret, Wfi, SfenceVma, Bastion}
 use Rattle.bn_types.specs.declared.reg.Reg.{Reg}
 use Rattle.bn_types.specs.declared.regs.Regs.{Regs}
-use Rattle.bn_model.specs.Acting.{act_of, branch_if, holds, jump, jump_if, plus_immediate, register, sum_64}
+use Rattle.bn_model.specs.Acting.{act_of, branch_if, holds, jump, jump_if, plus_immediate, register}
+use Rattle.bn_model.specs.State.{next_pc}
 use Rattle.bn_machine.specs.Within.{JumpsAligned}
 
 jump_aligned : (target : ℕ) (rd : Reg) (pc : ℕ) → JumpsAligned (jump target rd pc)
 jump_aligned target rd pc = by_test (nat_eq (target % 4) 0) refl where
-  by_test : (b : Bool) → nat_eq (target % 4) 0 ≡ b → JumpsAligned (jump_if b target rd (sum_64 pc 4))
+  by_test : (b : Bool) → nat_eq (target % 4) 0 ≡ b → JumpsAligned (jump_if b target rd (next_pc pc))
   by_test true e = eqb-true _ _ e
   by_test false e = tt
 

@@ -125,6 +125,7 @@ range_is_page bytes g =
 pub record IsFilled (start nest : Nested) (page : ℕ) (bytes : List ℕ) : Type 0 where
   pub held : contents nest ≡ mixed page (pages_of (length (contents start)) bytes) (contents start)
   pub ram : nest.ram ≡ start.ram
+  pub frames : length nest.frames ≡ length start.frames
   pub spare : length nest.free + page ≡ length start.free
   pub placed : (p : ℕ) → p < page → place nest p ≢ None
   pub unplaced : (p : ℕ) → page ≤ p → place nest p ≡ None
@@ -135,6 +136,7 @@ pub record IsPlaced (old new : Nested) (page : ℕ) (frame : Frame) : Type 0 whe
   pub others : (other : ℕ) → (other ≡ page → ⊥) → place new other ≡ place old other
   pub held : contents new ≡ contents old
   pub ram : new.ram ≡ old.ram
+  pub frames : length new.frames ≡ length old.frames
   pub spare : length new.free + 1 ≡ length old.free
 
 -- and gets its bytes
@@ -143,11 +145,13 @@ pub record HasBytes (old new : Nested) (page : ℕ) (bytes : List ℕ) : Type 0 
   pub places : (other : ℕ) → place new other ≡ place old other
   pub ram : new.ram ≡ old.ram
   pub free : new.free ≡ old.free
+  pub frames : length new.frames ≡ length old.frames
 
 pub filled_none : (start : Nested) (bytes : List ℕ) → ((p : ℕ) → place start p ≡ None) → IsFilled start start 0 bytes
 filled_none start bytes none = record {
   held = refl;
   ram = refl;
+  frames = refl;
   spare = omega arith;
   placed = λ p h. absurd (omega arith);
   unplaced = λ p h. none p;
@@ -162,6 +166,7 @@ filled_more start old placed new page frame chunk bytes below e f p b = record {
       ∙ ap (λ (pages : List (List ℕ)). set pages page chunk) (p.held ∙ f.held)
       ∙ page_filled (contents start) page bytes chunk below e;
   ram = b.ram ∙ p.ram ∙ f.ram;
+  frames = b.frames ∙ p.frames ∙ f.frames;
   spare = let free = ap length b.free in let more = p.spare in let all = f.spare in omega arith;
   placed = λ q h. go q h (cases_eq q page);
   unplaced = λ q h. b.places q ∙ p.others q (λ same. absurd (omega arith)) ∙ f.unplaced q (omega arith);

@@ -5,3 +5,4 @@ pub mod Runs
 pub mod Serving
 pub mod Stories
 pub mod Wrote
+mod Turns

@@ -7,13 +7,15 @@ use Rattle.bn_types.specs.declared.status.Status.{Status}
 use Rattle.bn_types.specs.declared.status.Status.TheVariants as answer
 use Rattle.bn_edge.specs.declared.desk_fault.DeskFault.{DeskFault}
 use Rattle.bn_edge.specs.declared.desk_fault.DeskFault.TheVariants as desk_fault
-use Rattle.bn_edge.specs.Counts.{CanCount, FaultsBy, MissesBy}
+use Rattle.bn_edge.specs.Accounts.{DeskAccount}
+use Rattle.bn_edge.specs.Counts.{CountsFaults, CountsMisses, Stays}
 use Rattle.bn_edge.specs.Files.{Agrees, file_named}
 use Rattle.bn_types.specs.declared.image_sort.ImageSort.TheVariants.{Long}
 use Rattle.bn_model.specs.Loading.{Faulty, load_if_long, load_of}
 use Rattle.bn_model.specs.Reporting.{Files, Report, missing, most_image_bytes, report_of, report_of_file, report_of_load, report_of_order, unbuilt}
 use Rattle.bn_model.specs.Words.{RunOrder, order_of}
-use Rattle.bn_machine.specs.Headline.{Answers, AnswersFault, AreTold, CountsMiss, IsDue, IsStory}
+use Rattle.bn_machine.specs.Headline.{AreTold, CountsMiss, IsDue, Outside}
+use Rattle.bn_machine.specs.Story.{Answers, AnswersFault, IsStory}
 use Rattle.bn_machine.proofs.Stories.{file_found}
 
 -- the files that the desk tells, or else those that its answer shows
@@ -45,102 +47,79 @@ front_loaded most size file = by_cases (cases_lt (length file) (most + 1)) where
 
 -- ---- the story
 
-counts_found : (s : Status) (misses misses' : ℕ) → s ≢ answer.NoFile → misses' ≡ misses → CountsMiss s misses misses'
-counts_found answer.NoFile misses misses' ne e = absurd (ne refl)
-counts_found answer.Ended misses misses' ne e = e
-counts_found answer.Limit misses misses' ne e = e
-counts_found answer.Image misses misses' ne e = e
-counts_found answer.SinkFault misses misses' ne e = e
-counts_found answer.DeskFault misses misses' ne e = e
-counts_found answer.Unbuilt misses misses' ne e = e
-counts_found answer.Memory misses misses' ne e = e
+counts_found : (status : Status) (old new : ℕ) → status ≢ answer.NoFile → Stays old new → CountsMiss status old new
+counts_found answer.NoFile old new ne stays = absurd (ne refl)
+counts_found status old new ne stays = stays
 
-story_of : (status : Status) (told : Option (List (List ℕ × List ℕ))) (words : List (List ℕ)) (misses misses' faults faults' : ℕ) (old new : Option (List ℕ)) (report : Report)
-    → status ≢ answer.Memory → IsDue told words misses misses' faults faults' report → Answers status report old new
-    → IsStory status told words misses misses' faults faults' old new
-story_of answer.Memory told words misses misses' faults faults' old new report ne due a = absurd (ne refl)
-story_of answer.Ended told words misses misses' faults faults' old new report ne due a = record { report = report; due = due; answered = a }
-story_of answer.Limit told words misses misses' faults faults' old new report ne due a = record { report = report; due = due; answered = a }
-story_of answer.Image told words misses misses' faults faults' old new report ne due a = record { report = report; due = due; answered = a }
-story_of answer.NoFile told words misses misses' faults faults' old new report ne due a = record { report = report; due = due; answered = a }
-story_of answer.SinkFault told words misses misses' faults faults' old new report ne due a = record { report = report; due = due; answered = a }
-story_of answer.DeskFault told words misses misses' faults faults' old new report ne due a = record { report = report; due = due; answered = a }
-story_of answer.Unbuilt told words misses misses' faults faults' old new report ne due a = record { report = report; due = due; answered = a }
+module _ (words : List (List ℕ)) (old new : Outside) where
+  story_of : (status : Status) (report : Report) → status ≢ answer.Memory → IsDue words old.desk new.desk report → Answers status report old.sink new.sink
+      → IsStory status words old new
+  story_of answer.Memory report ne due a = absurd (ne refl)
+  story_of status report ne due a = record { report = report; due = due; answered = a }
 
-module _ (status : Status) (told : Option (List (List ℕ × List ℕ))) (words : List (List ℕ)) (misses misses' faults faults' : ℕ) (old new : Option (List ℕ)) where
   -- the words name no image
-  pub unnamed_story : order_of words ≡ None → misses' ≡ misses → faults' ≡ faults → status ≢ answer.Memory → Answers status unbuilt old new
-      → IsStory status told words misses misses' faults faults' old new
+  pub unnamed_story : (status : Status) → order_of words ≡ None → new.desk ≡ old.desk → status ≢ answer.Memory → Answers status unbuilt old.sink new.sink
+      → IsStory status words old new
   unfolding report_of
-  unnamed_story named missed quiet ne a =
-      let due_is : unbuilt ≡ report_of words (files_of told None) = sym (ap (λ order. report_of_order order (files_of told None)) named) in
-      story_of status told words misses misses' faults faults' old new unbuilt ne (inl (record {
-        files = files_of told None;
-        agrees = files_agree told None;
-        is = due_is;
-        missed = λ can. missed;
-        quiet = λ can. quiet;
+  unnamed_story status named same ne a =
+      let files = files_of old.desk.files None in
+      story_of status unbuilt ne (inl (record {
+        files = files;
+        agrees = files_agree old.desk.files None;
+        is = sym (ap (λ order. report_of_order order files) named);
+        missed = λ can. ap (λ (desk : DeskAccount). desk.misses) same;
+        quiet = λ can. ap (λ (desk : DeskAccount). desk.faults) same;
       })) a
 
-  -- the desk gave a file
-  pub file_story : (order : RunOrder) (most : ℕ) (file : Vec ℕ Global) → order_of words ≡ Some order → most ≡ most_image_bytes + 1 → vec_len file ≤ most
-      → Agrees told order.image most (Ok file) → (CanCount misses → misses' ≡ misses) → (CanCount faults → faults' ≡ faults) → Answers status (report_of_file (Some file.items) order) old new
-      → IsStory status told words misses misses' faults faults' old new
-  unfolding report_of
-  file_story order most file named size short agrees missed quiet a = by_status status a where
-    whole : (t : Option (List (List ℕ × List ℕ))) → Agrees t order.image most (Ok file) → report_of_file (Some file.items) order ≡ report_of_file (files_of t (Some file.items) order.image) order
-    whole None h = refl
-    whole (Some list) h = by_file (file_named list order.image) h where
-      by_file : (found : Option (List ℕ)) → IsSomeAnd found (λ all. file.items ≡ take most all) → report_of_file (Some file.items) order ≡ report_of_file found order
-      by_file (Some all) e =
-          ap (λ load. report_of_load load order) (ap (load_of most_image_bytes (4096 * order.ram_pages)) (e ∙ ap (λ n. take n all) size) ∙ front_loaded most_image_bytes (4096 * order.ram_pages) all)
-      by_file None e = elim e [ ]
+  module _ (order : RunOrder) (most : ℕ) (named : order_of words ≡ Some order) where
+    -- the desk gave a file
+    pub file_story : (status : Status) (file : Vec ℕ Global) → most ≡ most_image_bytes + 1
+        → Agrees old.desk.files order.image most (Ok file) → Stays old.desk.misses new.desk.misses → Stays old.desk.faults new.desk.faults
+        → Answers status (report_of_file (Some file.items) order) old.sink new.sink → IsStory status words old new
+    unfolding report_of
+    file_story status file size agrees missed quiet a = by_status status a where
+      whole : (told : Option (List (List ℕ × List ℕ))) → Agrees told order.image most (Ok file)
+          → report_of_file (Some file.items) order ≡ report_of_file (files_of told (Some file.items) order.image) order
+      whole None h = refl
+      whole (Some list) h = by_file (file_named list order.image) h where
+        by_file : (found : Option (List ℕ)) → IsSomeAnd found (λ all. file.items ≡ take most all) → report_of_file (Some file.items) order ≡ report_of_file found order
+        by_file (Some all) e =
+            ap (λ load. report_of_load load order) (ap (load_of most_image_bytes (4096 * order.ram_pages)) (e ∙ ap (λ n. take n all) size) ∙ front_loaded most_image_bytes (4096 * order.ram_pages) all)
+        by_file None e = elim e [ ]
 
-    due_is : report_of_file (Some file.items) order ≡ report_of words (files_of told (Some file.items))
-    due_is = whole told agrees ∙ sym (ap (λ n. report_of_order n (files_of told (Some file.items))) named)
+      due : IsDue words old.desk new.desk (report_of_file (Some file.items) order)
+      due = let files = files_of old.desk.files (Some file.items) in inl (record {
+        files = files;
+        agrees = files_agree old.desk.files (Some file.items);
+        is = whole old.desk.files agrees ∙ sym (ap (λ n. report_of_order n files) named);
+        missed = counts_found _ _ _ (file_found file.items order) missed;
+        quiet = quiet;
+      })
 
-    due : IsDue told words misses misses' faults faults' (report_of_file (Some file.items) order)
-    due = inl (record {
-      files = files_of told (Some file.items);
-      agrees = files_agree told (Some file.items);
-      is = due_is;
-      missed = λ can. counts_found _ misses misses' (file_found file.items order) (missed can);
-      quiet = quiet;
-    })
+      by_status : (s : Status) → Answers s (report_of_file (Some file.items) order) old.sink new.sink → IsStory s words old new
+      by_status answer.Memory x = record { missed = missed; quiet = quiet; untouched = x }
+      by_status s x = record { report = report_of_file (Some file.items) order; due = due; answered = x }
 
-    by_status : (s : Status) → Answers s (report_of_file (Some file.items) order) old new → IsStory s told words misses misses' faults faults' old new
-    by_status answer.Memory x = record { missed = missed; quiet = quiet; untouched = x }
-    by_status answer.Ended x = record { report = report_of_file (Some file.items) order; due = due; answered = x }
-    by_status answer.Limit x = record { report = report_of_file (Some file.items) order; due = due; answered = x }
-    by_status answer.Image x = record { report = report_of_file (Some file.items) order; due = due; answered = x }
-    by_status answer.NoFile x = record { report = report_of_file (Some file.items) order; due = due; answered = x }
-    by_status answer.SinkFault x = record { report = report_of_file (Some file.items) order; due = due; answered = x }
-    by_status answer.DeskFault x = record { report = report_of_file (Some file.items) order; due = due; answered = x }
-    by_status answer.Unbuilt x = record { report = report_of_file (Some file.items) order; due = due; answered = x }
-
-  -- the desk gave none
-  pub fault_story : (order : RunOrder) (most : ℕ) (fault : DeskFault) → order_of words ≡ Some order
-      → Agrees told order.image most (Err fault) → (CanCount misses → MissesBy fault misses misses') → (CanCount faults → FaultsBy fault faults faults')
-      → AnswersFault fault status old new → IsStory status told words misses misses' faults faults' old new
-  unfolding report_of
-  fault_story order most desk_fault.Memory named agrees missed failed a =
-      subst (λ (s : Status). IsStory s told words misses misses' faults faults' old new) (sym a.0)
-      (record { missed = missed; quiet = failed; untouched = a.1 })
-  fault_story order most desk_fault.Failed named agrees missed failed a =
-      story_of status told words misses misses' faults faults' old new _ a.0 (inr (record { is = refl; missed = missed; rose = failed })) a.1
-  fault_story order most desk_fault.Missing named agrees missed failed a =
-      story_of status told words misses misses' faults faults' old new missing a.0
-      (inl (record {
-        files = files_of told None;
-        agrees = files_agree told None;
-        is = due_is;
-        missed = missed;
-        quiet = failed;
-      })) a.1
-    where
-      none : (t : Option (List (List ℕ × List ℕ))) → Agrees t order.image most (Err desk_fault.Missing) → files_of t None order.image ≡ None
-      none None h = refl
-      none (Some list) h = h
-
-      due_is : missing ≡ report_of words (files_of told None)
-      due_is = sym (ap (λ n. report_of_order n (files_of told None)) named ∙ ap (λ file. report_of_file file order) (none told agrees))
+    -- the desk gave none
+    pub fault_story : (fault : DeskFault) (status : Status) → Agrees old.desk.files order.image most (Err fault)
+        → CountsMisses {A = Vec ℕ Global} (Err fault) old.desk.misses new.desk.misses → CountsFaults {A = Vec ℕ Global} (Err fault) old.desk.faults new.desk.faults
+        → AnswersFault fault status old.sink new.sink → IsStory status words old new
+    unfolding report_of
+    fault_story desk_fault.Memory status agrees missed failed a =
+        subst (λ (s : Status). IsStory s words old new) (sym a.0) (record { missed = missed; quiet = failed; untouched = a.1 })
+    fault_story desk_fault.Failed status agrees missed failed a =
+        story_of status _ a.0 (inr (record { is = refl; missed = missed; rose = failed })) a.1
+    fault_story desk_fault.Missing status agrees missed failed a =
+        let files = files_of old.desk.files None in
+        story_of status missing a.0
+        (inl (record {
+          files = files;
+          agrees = files_agree old.desk.files None;
+          is = sym (ap (λ n. report_of_order n files) named ∙ ap (λ file. report_of_file file order) (none old.desk.files agrees));
+          missed = missed;
+          quiet = failed;
+        })) a.1
+      where
+        none : (told : Option (List (List ℕ × List ℕ))) → Agrees told order.image most (Err desk_fault.Missing) → files_of told None order.image ≡ None
+        none None h = refl
+        none (Some list) h = h

@@ -1,38 +1,40 @@
--- The readable clauses of the one public call, from its whole story.
+-- The promise of the one public call, from its whole story.
 use Rattle.std.proofs.Common.{◌≡◌, ◌≢◌, ℕ, ◌*◌, inl, inr, List, [], ◌∷◌, ◌++◌, Option, Some, None, codes, refl, sym, ap, subst, ◌∙◌, arith}
 use Rattle.std.proofs.lemmas.List.{append_assoc}
 use Rattle.bn_types.specs.declared.ending.Ending.{Ending}
 use Rattle.bn_types.specs.declared.ending.Ending.TheVariants as ending
 use Rattle.bn_types.specs.declared.status.Status.{Status}
 use Rattle.bn_types.specs.declared.status.Status.TheVariants as answer
-use Rattle.bn_edge.specs.Counts.{CanCount, Rose}
-use Rattle.bn_edge.specs.Written.{appended, WritesFront}
+use Rattle.bn_edge.specs.Accounts.{SinkAccount}
+use Rattle.bn_edge.specs.Counts.{CanCount, IsToldBy, Rises, Rose, Stays}
+use Rattle.bn_edge.specs.Written.{Writes, WritesFront, appended}
 use Rattle.bn_model.specs.Loading.{Load, Ram, Faulty, Unbuilt, load_of}
 use Rattle.bn_model.specs.Reporting.{Files, Report, closing, most_image_bytes, report_of, report_of_course, report_of_file, report_of_load, report_of_order}
 use Rattle.bn_model.specs.Running.{Course}
 use Rattle.bn_model.specs.Spelling.{text_of}
 use Rattle.bn_model.specs.State.{State}
 use Rattle.bn_model.specs.Words.{RunOrder, order_of}
-use Rattle.bn_machine.specs.Headline.{Answers, CountsMiss, CountsSinkFault, IsDue, IsQuiet, IsStory, WasDue, WritesReport}
+use Rattle.bn_machine.specs.Headline.{CountsMiss, IsDue, IsQuiet, Outside, Promise, WritesReport}
+use Rattle.bn_machine.specs.Story.{Answers, CountsSinkFault, IsStory, WasDue}
 use Rattle.bn_machine.specs.Telling.{FinishesRun}
 use Rattle.bn_machine.proofs.Wrote.{appended-append}
 
 -- ---- a run and its close
 
-front_after : (old mid new : Option (List ℕ)) (before text : List ℕ) → mid ≡ appended old before → WritesFront mid new text → WritesFront old new (before ++ text)
+front_after : (old mid new : SinkAccount) (before text : List ℕ) → Writes old mid before → WritesFront mid new text → WritesFront old new (before ++ text)
 front_after old mid new before text e w = record {
   front = before ++ w.front;
   rest = w.rest;
   split = append_assoc before w.front w.rest ∙ ap (λ t. before ++ t) w.split;
   proper = w.proper;
-  written = w.written ∙ ap (λ o. appended o w.front) e ∙ appended-append old before w.front;
+  written = w.written ∙ ap (λ o. appended o w.front) e ∙ appended-append old.written before w.front;
 }
 
-plain_after : (old mid new : Option (List ℕ)) (before text : List ℕ) → mid ≡ appended old before → new ≡ appended mid text → new ≡ appended old (before ++ text)
-plain_after old mid new before text e f = f ∙ ap (λ o. appended o text) e ∙ appended-append old before text
+plain_after : (old mid new : SinkAccount) (before text : List ℕ) → Writes old mid before → Writes mid new text → Writes old new (before ++ text)
+plain_after old mid new before text e f = f ∙ ap (λ o. appended o text) e ∙ appended-append old.written before text
 
 -- what closes a finished run makes up its report
-pub closed : (status : Status) (run : Course) (reason : Ending) (last : State) (old mid new : Option (List ℕ)) → FinishesRun run reason last old mid
+pub closed : (status : Status) (run : Course) (reason : Ending) (last : State) (old mid new : SinkAccount) → FinishesRun run reason last old mid
     → status ≢ answer.Memory → Answers status (closing reason last) mid new → Answers status (report_of_course run) old new
 closed status run reason last old mid new f ne a =
     go status ne (subst (λ (r : Report). Answers status r mid new) same a)
@@ -43,15 +45,10 @@ closed status run reason last old mid new f ne a =
     go : (s : Status) → s ≢ answer.Memory → Answers s (closing run.ending run.last) mid new → Answers s (report_of_course run) old new
     go answer.Memory n x = absurd (n refl)
     go answer.SinkFault n x = front_after old mid new (text_of run.told) _ f.written x
-    go answer.Ended n x = (x.0, plain_after old mid new (text_of run.told) _ f.written x.1)
-    go answer.Limit n x = (x.0, plain_after old mid new (text_of run.told) _ f.written x.1)
-    go answer.Image n x = (x.0, plain_after old mid new (text_of run.told) _ f.written x.1)
-    go answer.NoFile n x = (x.0, plain_after old mid new (text_of run.told) _ f.written x.1)
-    go answer.DeskFault n x = (x.0, plain_after old mid new (text_of run.told) _ f.written x.1)
-    go answer.Unbuilt n x = (x.0, plain_after old mid new (text_of run.told) _ f.written x.1)
+    go s n x = (x.0, plain_after old mid new (text_of run.told) _ f.written x.1)
 
 -- a proper front of a text is one of a longer text
-pub front_longer : (old new : Option (List ℕ)) (text more : List ℕ) → WritesFront old new text → WritesFront old new (text ++ more)
+pub front_longer : (old new : SinkAccount) (text more : List ℕ) → WritesFront old new text → WritesFront old new (text ++ more)
 front_longer old new text more w = record {
   front = w.front;
   rest = w.rest ++ more;
@@ -112,98 +109,120 @@ missing_text words files = of_order (order_of words) where
   of_order None e = cc
   of_order (Some order) e = of_file (files order.image) order e
 
--- ---- the clauses
+-- ---- counts that tell an answer
 
-module _ (told : Option (List (List ℕ × List ℕ))) (words : List (List ℕ)) (misses misses' faults faults' : ℕ) (old new : Option (List ℕ)) where
-  reported : (status : Status) (w : WasDue told words misses misses' faults faults' status old new) → w.report.status ≡ status → new ≡ appended old w.report.text
-      → IsQuiet faults faults' → WritesReport told words status old new
-  reported status w e f quiet = go w.due where
-    go : IsDue told words misses misses' faults faults' w.report → WritesReport told words status old new
-    go (inl files) = record {
-      files = files.files;
-      agrees = files.agrees;
-      answers = sym e ∙ ap (λ (r : Report). r.status) files.is;
-      written = f ∙ ap (λ (r : Report). appended old r.text) files.is;
-    }
-    go (inr fault) = let rose = fault.rose quiet.0 in let same = quiet.1 in absurd (omega arith)
+-- where the answer counts, or else doesn't
+told_where : (A : Type 0) (old new : ℕ) → A → Rises old new → IsToldBy A old new
+told_where A old new a rose can = (λ answered. rose can, λ more. a)
 
-  pub exact : (status : Status) → IsStory status told words misses misses' faults faults' old new → status ≢ answer.SinkFault → status ≢ answer.Memory
-      → IsQuiet faults faults' → WritesReport told words status old new
-  exact answer.Memory s sink memory quiet = absurd (memory refl)
-  exact answer.SinkFault s sink memory quiet = absurd (sink refl)
-  exact answer.Ended s sink memory quiet = reported answer.Ended s s.answered.0 s.answered.1 quiet
-  exact answer.Limit s sink memory quiet = reported answer.Limit s s.answered.0 s.answered.1 quiet
-  exact answer.Image s sink memory quiet = reported answer.Image s s.answered.0 s.answered.1 quiet
-  exact answer.NoFile s sink memory quiet = reported answer.NoFile s s.answered.0 s.answered.1 quiet
-  exact answer.DeskFault s sink memory quiet = reported answer.DeskFault s s.answered.0 s.answered.1 quiet
-  exact answer.Unbuilt s sink memory quiet = reported answer.Unbuilt s s.answered.0 s.answered.1 quiet
-
-  due_missing : (r : Report) → IsDue told words misses misses' faults faults' r → CanCount misses → r.status ≡ answer.NoFile → Rose misses misses'
-  due_missing r (inl files) can e = rw e at (files.missed can)
-  due_missing r (inr fault) can e = let d = sym (ap (λ (x : Report). x.status) fault.is) ∙ e in cc
-
-  due_found : (r : Report) (status : Status) → IsDue told words misses misses' faults faults' r → CanCount misses → r.status ≡ status
-      → CountsMiss status misses misses' ≡ (misses' ≡ misses) → misses' ≡ misses
-  due_found r status (inl files) can e same = subst (λ (P : Type 0). P) same (rw e at (files.missed can))
-  due_found r status (inr fault) can e same = fault.missed can
-
-  pub no_file : (status : Status) → IsStory status told words misses misses' faults faults' old new → status ≢ answer.SinkFault → CanCount misses
-      → (status ≡ answer.NoFile → Rose misses misses') × (Rose misses misses' → status ≡ answer.NoFile)
-  no_file answer.Memory s sink can = (λ e. cc, λ rose. let same = s.missed can in absurd (omega arith))
-  no_file answer.SinkFault s sink can = absurd (sink refl)
-  no_file answer.NoFile s sink can = (λ e. due_missing s.report s.due can s.answered.0, λ rose. refl)
-  no_file answer.Ended s sink can = (λ e. cc, λ rose. let same = due_found s.report answer.Ended s.due can s.answered.0 refl in absurd (omega arith))
-  no_file answer.Limit s sink can = (λ e. cc, λ rose. let same = due_found s.report answer.Limit s.due can s.answered.0 refl in absurd (omega arith))
-  no_file answer.Image s sink can = (λ e. cc, λ rose. let same = due_found s.report answer.Image s.due can s.answered.0 refl in absurd (omega arith))
-  no_file answer.DeskFault s sink can = (λ e. cc, λ rose. let same = due_found s.report answer.DeskFault s.due can s.answered.0 refl in absurd (omega arith))
-  no_file answer.Unbuilt s sink can = (λ e. cc, λ rose. let same = due_found s.report answer.Unbuilt s.due can s.answered.0 refl in absurd (omega arith))
-
-  due_failed : (r : Report) → IsDue told words misses misses' faults faults' r → CanCount faults → r.status ≡ answer.DeskFault → Rose faults faults'
-  due_failed r (inl files) can e = absurd (no_desk_fault words files.files (sym (ap (λ (x : Report). x.status) files.is) ∙ e))
-  due_failed r (inr fault) can e = fault.rose can
-
-  due_read : (r : Report) (status : Status) → IsDue told words misses misses' faults faults' r → CanCount faults → r.status ≡ status → Rose faults faults' → status ≡ answer.DeskFault
-  due_read r status (inl files) can e rose = let same = files.quiet can in absurd (omega arith)
-  due_read r status (inr fault) can e rose = sym e ∙ ap (λ (x : Report). x.status) fault.is
-
-  pub desk_fault : (status : Status) → IsStory status told words misses misses' faults faults' old new → status ≢ answer.SinkFault → CanCount faults
-      → (status ≡ answer.DeskFault → Rose faults faults') × (Rose faults faults' → status ≡ answer.DeskFault)
-  desk_fault answer.Memory s sink can = (λ e. cc, λ rose. let same = s.quiet can in absurd (omega arith))
-  desk_fault answer.SinkFault s sink can = absurd (sink refl)
-  desk_fault answer.NoFile s sink can = (λ e. cc, λ rose. due_read s.report _ s.due can s.answered.0 rose)
-  desk_fault answer.Ended s sink can = (λ e. cc, λ rose. due_read s.report _ s.due can s.answered.0 rose)
-  desk_fault answer.Limit s sink can = (λ e. cc, λ rose. due_read s.report _ s.due can s.answered.0 rose)
-  desk_fault answer.Image s sink can = (λ e. cc, λ rose. due_read s.report _ s.due can s.answered.0 rose)
-  desk_fault answer.Unbuilt s sink can = (λ e. cc, λ rose. due_read s.report _ s.due can s.answered.0 rose)
-  desk_fault answer.DeskFault s sink can = (λ e. due_failed s.report s.due can s.answered.0, λ rose. refl)
-
-  missing_due : (r : Report) → IsDue told words misses misses' faults faults' r → r.status ≡ answer.NoFile → r.text ≡ codes "missing image\n"
-  missing_due r (inl files) e =
-      ap (λ (x : Report). x.text) files.is ∙ missing_text words files.files (sym (ap (λ (x : Report). x.status) files.is) ∙ e)
-  missing_due r (inr fault) e = let d = sym (ap (λ (x : Report). x.status) fault.is) ∙ e in cc
-
-  pub missing_line : IsStory answer.NoFile told words misses misses' faults faults' old new → new ≡ appended old (codes "missing image\n")
-  missing_line s = s.answered.1 ∙ ap (appended old) (missing_due s.report s.due s.answered.0)
-
-  failed_due : (r : Report) → IsDue told words misses misses' faults faults' r → r.status ≡ answer.DeskFault → r.text ≡ codes "desk image\n"
-  failed_due r (inl files) e = absurd (no_desk_fault words files.files (sym (ap (λ (x : Report). x.status) files.is) ∙ e))
-  failed_due r (inr fault) e = ap (λ (x : Report). x.text) fault.is
-
-  pub desk_line : IsStory answer.DeskFault told words misses misses' faults faults' old new → new ≡ appended old (codes "desk image\n")
-  desk_line s = s.answered.1 ∙ ap (appended old) (failed_due s.report s.due s.answered.0)
+told_nowhere : (A : Type 0) (old new : ℕ) → ¬ A → Stays old new → IsToldBy A old new
+told_nowhere A old new never stays can = (λ answered. absurd (never answered), λ more. let same = stays can in absurd (omega arith))
 
 -- the sink's faults tell whether the answer is its fault
-pub sink_fault : (status : Status) (old new : ℕ) → CountsSinkFault status old new → (status ≡ answer.SinkFault → Rose old new) × (Rose old new → status ≡ answer.SinkFault)
-sink_fault answer.SinkFault old new c = (λ e. c, λ rose. refl)
-sink_fault answer.Memory old new c = (λ e. cc, λ rose. absurd (omega arith))
-sink_fault answer.Ended old new c = (λ e. cc, λ rose. absurd (omega arith))
-sink_fault answer.Limit old new c = (λ e. cc, λ rose. absurd (omega arith))
-sink_fault answer.Image old new c = (λ e. cc, λ rose. absurd (omega arith))
-sink_fault answer.NoFile old new c = (λ e. cc, λ rose. absurd (omega arith))
-sink_fault answer.DeskFault old new c = (λ e. cc, λ rose. absurd (omega arith))
-sink_fault answer.Unbuilt old new c = (λ e. cc, λ rose. absurd (omega arith))
+sink_told : (status : Status) (old new : ℕ) → CountsSinkFault status old new → IsToldBy (status ≡ answer.SinkFault) old new
+sink_told answer.SinkFault old new c = told_where _ old new refl c
+sink_told status old new c = told_nowhere _ old new (λ e. cc) c
 
 -- where they stay, it isn't
-pub no_sink_fault : (status : Status) (old new : ℕ) → IsQuiet old new → (CanCount old → CountsSinkFault status old new) → status ≢ answer.SinkFault
+pub no_sink_fault : (status : Status) (old new : ℕ) → IsQuiet old new → CountsSinkFault status old new → status ≢ answer.SinkFault
 no_sink_fault status old new quiet counts e =
-    let rose = (sink_fault status old new (counts quiet.0)).0 e in let same = quiet.1 in omega arith
+    let rose = (sink_told status old new counts quiet.0).0 e in let same = quiet.1 in omega arith
+
+-- the misses tell whether a file is missing
+miss_told : (status : Status) (old new : ℕ) → CountsMiss status old new → IsToldBy (status ≡ answer.NoFile) old new
+miss_told answer.NoFile old new c = told_where _ old new refl c
+miss_told status old new c = told_nowhere _ old new (λ e. cc) c
+
+-- ---- the promise
+
+-- a report was due
+was_due : (status : Status) (words : List (List ℕ)) (old new : Outside) → IsStory status words old new → status ≢ answer.Memory → WasDue words status old new
+was_due answer.Memory words old new s ne = absurd (ne refl)
+was_due status words old new s ne = s
+
+-- and was written whole
+answered : (status : Status) (report : Report) (old new : SinkAccount) → Answers status report old new → status ≢ answer.Memory → status ≢ answer.SinkFault
+    → (report.status ≡ status) × Writes old new report.text
+answered answer.Memory report old new a memory sink = absurd (memory refl)
+answered answer.SinkFault report old new a memory sink = absurd (sink refl)
+answered status report old new a memory sink = a
+
+module _ (words : List (List ℕ)) (old new : Outside) (status : Status) where
+  module _ (w : WasDue words status old new) (memory : status ≢ answer.Memory) (sink : status ≢ answer.SinkFault) where
+    whole : (w.report.status ≡ status) × Writes old.sink new.sink w.report.text
+    whole = answered status w.report old.sink new.sink w.answered memory sink
+
+    reported : IsQuiet old.desk.faults new.desk.faults → WritesReport words status old new
+    reported quiet = go w.due where
+      go : IsDue words old.desk new.desk w.report → WritesReport words status old new
+      go (inl files) = record {
+        files = files.files;
+        agrees = files.agrees;
+        answers = sym whole.0 ∙ ap (λ (r : Report). r.status) files.is;
+        written = whole.1 ∙ ap (λ (r : Report). appended old.sink.written r.text) files.is;
+      }
+      go (inr fault) = let rose = fault.rose quiet.0 in let same = quiet.1 in absurd (omega arith)
+
+    due_missing : IsToldBy (status ≡ answer.NoFile) old.desk.misses new.desk.misses
+    due_missing = go w.due where
+      go : IsDue words old.desk new.desk w.report → IsToldBy (status ≡ answer.NoFile) old.desk.misses new.desk.misses
+      go (inl files) = miss_told status _ _ (subst (λ (s : Status). CountsMiss s old.desk.misses new.desk.misses) whole.0 files.missed)
+      go (inr fault) = told_nowhere _ _ _ (λ e. let d = sym (ap (λ (r : Report). r.status) fault.is) ∙ whole.0 ∙ e in cc) fault.missed
+
+    due_failed : IsToldBy (status ≡ answer.DeskFault) old.desk.faults new.desk.faults
+    due_failed = go w.due where
+      go : IsDue words old.desk new.desk w.report → IsToldBy (status ≡ answer.DeskFault) old.desk.faults new.desk.faults
+      go (inl files) =
+          told_nowhere _ _ _ (λ e. absurd (no_desk_fault words files.files (sym (ap (λ (r : Report). r.status) files.is) ∙ whole.0 ∙ e))) files.quiet
+      go (inr fault) = told_where _ _ _ (sym whole.0 ∙ ap (λ (r : Report). r.status) fault.is) fault.rose
+
+    missing_line : status ≡ answer.NoFile → Writes old.sink new.sink (codes "missing image\n")
+    missing_line is = whole.1 ∙ ap (appended old.sink.written) (text w.due) where
+      text : IsDue words old.desk new.desk w.report → w.report.text ≡ codes "missing image\n"
+      text (inl files) =
+          ap (λ (r : Report). r.text) files.is ∙ missing_text words files.files (sym (ap (λ (r : Report). r.status) files.is) ∙ whole.0 ∙ is)
+      text (inr fault) = let d = sym (ap (λ (r : Report). r.status) fault.is) ∙ whole.0 ∙ is in cc
+
+    desk_line : status ≡ answer.DeskFault → Writes old.sink new.sink (codes "desk image\n")
+    desk_line is = whole.1 ∙ ap (appended old.sink.written) (text w.due) where
+      text : IsDue words old.desk new.desk w.report → w.report.text ≡ codes "desk image\n"
+      text (inl files) = absurd (no_desk_fault words files.files (sym (ap (λ (r : Report). r.status) files.is) ∙ whole.0 ∙ is))
+      text (inr fault) = ap (λ (r : Report). r.text) fault.is
+
+-- what a story promises, by cases on its status: memory ran out, the sink failed, or what was due is written
+pub promise : (words : List (List ℕ)) (status : Status) (old new : Outside) → IsStory status words old new
+    → CountsSinkFault status old.sink.faults new.sink.faults → Promise words status old new
+promise words answer.Memory old new s c = record {
+  exact = λ work memory. absurd (memory refl);
+  sink_fault = sink_told answer.Memory _ _ c;
+  no_file = λ work. told_nowhere _ _ _ (λ e. cc) s.missed;
+  desk_fault = λ work. told_nowhere _ _ _ (λ e. cc) s.quiet;
+  front = λ e. cc;
+  missing_line = λ e. cc;
+  desk_line = λ e. cc;
+  untouched = λ e. s.untouched;
+  uncounted = λ e. s.missed;
+}
+promise words answer.SinkFault old new s c =
+    let broken = λ (work : IsQuiet old.sink.faults new.sink.faults). no_sink_fault answer.SinkFault _ _ work c refl in record {
+      exact = λ work memory. absurd (broken work.0);
+      sink_fault = sink_told answer.SinkFault _ _ c;
+      no_file = λ work. absurd (broken work);
+      desk_fault = λ work. absurd (broken work);
+      front = λ e. record { report = s.report; due = s.due; front = s.answered };
+      missing_line = λ e. cc;
+      desk_line = λ e. cc;
+      untouched = λ e. cc;
+      uncounted = λ e. cc;
+    }
+promise words status old new s c = record {
+  exact = λ work memory. reported words old new status s (λ e. cc) (λ e. cc) work.1;
+  sink_fault = sink_told status _ _ c;
+  no_file = λ work. due_missing words old new status s (λ e. cc) (λ e. cc);
+  desk_fault = λ work. due_failed words old new status s (λ e. cc) (λ e. cc);
+  front = λ e. cc;
+  missing_line = missing_line words old new status s (λ e. cc) (λ e. cc);
+  desk_line = desk_line words old new status s (λ e. cc) (λ e. cc);
+  untouched = λ e. cc;
+  uncounted = λ e. cc;
+}

@@ -1,6 +1,9 @@
 pub mod Headline
 pub mod Loads
+pub mod Making
 pub mod Orders
+pub mod Outside
 pub mod Standing
+pub mod Story
 pub mod Telling
 pub mod Within

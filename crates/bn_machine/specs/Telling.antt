@@ -1,19 +1,23 @@
 -- What a run tells a sink.
-use Rattle.std.specs.Prelude.{◌≡◌, ℕ, List, Option}
-use Rattle.bn_edge.specs.Written.{appended}
+use Rattle.std.specs.Prelude.{◌≡◌, ℕ, List, None}
+use Rattle.bn_edge.specs.Accounts.{SinkAccount}
+use Rattle.bn_edge.specs.Written.{Writes}
 use Rattle.bn_types.specs.declared.ending.Ending.{Ending}
+use Rattle.bn_types.specs.declared.event.Event.{Event}
 use Rattle.bn_model.specs.Running.{Course, StopsWithin}
 use Rattle.bn_model.specs.Spelling.{text_of}
 use Rattle.bn_model.specs.State.{State}
 
 -- a run ends as its course does, in the course's last state, and wrote the course's lines
-pub record FinishesRun (run : Course) (reason : Ending) (stopped : State) (old new : Option (List ℕ)) : Type 0 where
+pub record FinishesRun (run : Course) (reason : Ending) (stopped : State) (old new : SinkAccount)
+    : Type 0 where
   pub ending : reason ≡ run.ending
   pub last : stopped ≡ run.last
-  pub written : new ≡ appended old (text_of run.told)
+  pub written : Writes old new (text_of run.told)
 
 -- a run stops after an event whose lines couldn't all be written
-pub record StopsRun (start stopped : State) (limit : ℕ) (old new : Option (List ℕ)) : Type 0 where
-  pub text : List ℕ
-  pub stops : StopsWithin start stopped limit text
-  pub written : new ≡ appended old text
+pub record StopsRun (start stopped : State) (events : List Event) (old new : SinkAccount) : Type 0
+  where
+    pub text : List ℕ
+    pub stops : StopsWithin None start stopped events text
+    pub written : Writes old new text

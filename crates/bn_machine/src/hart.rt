@@ -1,6 +1,7 @@
 ghost use Rattle.std.specs.Prelude.{◌≡◌, ◌%◌, ◌<◌};
 ghost use Rattle.bn_model.specs.State as flat;
 ghost use Rattle.bn_model.specs.CsrFile.{HasMode};
+ghost use Rattle.bn_machine.specs.Outside.{outside};
 
 use bn_types::{Asker, Cause, ModId, Mode, Reg, Regs};
 use rv_csr::Csrs;
@@ -9,8 +10,8 @@ use std::marker::Model;
 /// A timer that is never pending, since no clock comes so far.
 const NEVER: u64 = u64::MAX;
 
-/// The registers of a call's first two arguments and of its answer (RISC-V calling conventions, "Integer
-/// Register Convention").
+/// The registers of a call's first two arguments and of its answer (RISC-V calling conventions,
+/// "Integer Register Convention").
 const A0: Reg = Reg(10);
 
 const A1: Reg = Reg(11);
@@ -41,6 +42,7 @@ impl Model for Hart {
       timer = h.timer;
       retired = h.retired;
       started = h.started;
+      current = flat.untrusted;
     } };
 
     ghost invariant = { λ h. h.pc % 4 ≡ 0 };
@@ -76,6 +78,14 @@ impl Hart {
             retired: 0,
             started: false,
         }
+    }
+
+    /// It runs the untrusted world: modules can't be called yet.
+    pub fn stay_outside(&self)
+        ensures { outside self.now ≡ self.now }
+    {
+        // For the prover: reading a field tells what the invariant says of it.
+        let _pc = &self.pc;
     }
 
     /// Whether it is started.
@@ -116,7 +126,7 @@ impl Hart {
 
     /// The hart, of this number, as it accesses memory: in the untrusted world.
     pub fn asker(&self, number: u8) -> Asker
-        ensures asker { result ≡ flat.asker number self.now }
+        ensures asker { result ≡ flat.asker number (outside self.now) }
         ensures mode { HasMode result.satp }
     {
         Asker {
@@ -145,7 +155,7 @@ impl Hart {
 
     /// Goes on to the next instruction.
     pub fn go_on(&mut self)
-        ensures { self.new ≡ flat.gone_on self.old }
+        ensures { self.new ≡ flat.hart_after_next (outside self.old) }
     {
         self.pc = next_pc(self.pc);
         self.retired = self.retired.wrapping_add(1);
@@ -154,7 +164,7 @@ impl Hart {
     /// Sets rd and goes on. x0 keeps 0.
     pub fn go_on_with(&mut self, rd: Reg, value: u64)
         requires { rd.0 < 32 }
-        ensures { self.new ≡ flat.gone_on_with self.old rd value }
+        ensures { self.new ≡ flat.hart_after_set (outside self.old) rd value }
     {
         self.pc = next_pc(self.pc);
         self.retired = self.retired.wrapping_add(1);
@@ -165,7 +175,7 @@ impl Hart {
     pub fn jump(&mut self, target: u64, rd: Reg, link: u64)
         requires register { rd.0 < 32 }
         requires aligned { target % 4 ≡ 0 }
-        ensures { self.new ≡ flat.jumped self.old target rd link }
+        ensures { self.new ≡ flat.hart_after_jump (outside self.old) target rd link }
     {
         self.pc = target;
         self.retired = self.retired.wrapping_add(1);
@@ -174,7 +184,7 @@ impl Hart {
 
     /// Takes a trap, with this value for `stval`: it goes on in mode S at the address of `stvec`.
     pub fn trap(&mut self, cause: Cause, value: u64)
-        ensures { self.new ≡ flat.trapped self.old cause value }
+        ensures { self.new ≡ flat.hart_after_trap (outside self.old) cause value }
     {
         self.pc = self.csrs.enter_trap(cause, self.pc, value, self.mode);
         self.mode = Mode::S;
@@ -182,7 +192,7 @@ impl Hart {
 
     /// Returns from a trap: it goes on at `sepc` in the mode of SPP.
     pub fn return_from_trap(&mut self)
-        ensures { self.new ≡ flat.returned self.old }
+        ensures { self.new ≡ flat.hart_after_sret (outside self.old) }
     {
         let (pc, mode) = self.csrs.sret();
         self.pc = pc;
@@ -193,7 +203,7 @@ impl Hart {
     /// Sets rd to what a CSR held, has these CSRs and goes on.
     pub fn set_csrs(&mut self, rd: Reg, old: u64, csrs: Csrs)
         requires { rd.0 < 32 }
-        ensures { self.new ≡ flat.with_csrs self.old rd old csrs }
+        ensures { self.new ≡ flat.hart_after_csr (outside self.old) rd old csrs }
     {
         self.csrs = csrs;
         self.go_on_with(rd, old);
@@ -201,7 +211,7 @@ impl Hart {
 
     /// Sets a0 to an error and a1 to 0 and goes on.
     pub fn answer(&mut self, error: u64)
-        ensures { self.new ≡ flat.answered self.old error }
+        ensures { self.new ≡ flat.hart_after_answer (outside self.old) error }
     {
         set_register(&mut self.regs, A0, error);
         self.go_on_with(A1, 0);
@@ -209,7 +219,7 @@ impl Hart {
 
     /// Sets a0 to 0 and goes on.
     pub fn accept(&mut self)
-        ensures { self.new ≡ flat.gone_on_with self.old flat.a0 0 }
+        ensures { self.new ≡ flat.hart_after_set (outside self.old) flat.a0 0 }
     {
         self.go_on_with(A0, 0);
     }

@@ -1,8 +1,8 @@
 //! The machine: what a guest sees of it, event by event, and the call that runs an image on it.
 #![tactic(auto)]
 
+pub use bn_trace::LineBuf;
 pub use bn_types::Ending;
-pub use line_buf::LineBuf;
 pub use loaded::Loaded;
 pub use machine::Machine;
 pub use settings::Settings;
@@ -10,8 +10,6 @@ pub use top::bastion;
 pub use unbuilt::Unbuilt;
 
 mod hart;
-mod legality;
-mod line_buf;
 mod load;
 mod loaded;
 mod loading;

@@ -24,19 +24,23 @@ pub struct Machine {
 }
 
 impl Model for Machine {
-    ghost use Rattle.bn_model.specs.Nesting.{IsNested};
-    ghost use Rattle.bn_machine.specs.Standing.{Standing, standing};
+    ghost use Rattle.std.specs.Prelude.{[]};
+    ghost use Rattle.bn_machine.specs.Standing.{HasParts, Standing, standing};
 
     ghost Value = { Standing };
 
     ghost view = { λ m. standing (record {
       nest = m.unit.nest;
       harts = m.harts.items;
+      rows = [];
+      records = [];
+      keys = [];
+      next = 1;
       clock = m.clock;
       off = m.off;
     }) };
 
-    ghost invariant = { λ m. IsNested m.unit.nest };
+    ghost invariant = { λ m. HasParts m.unit.nest m.harts.items };
 }
 
 impl Machine {
@@ -58,6 +62,7 @@ impl Machine {
     fn stand(&self)
         ensures { StandsFor self.now.parts self.now.state }
     {
+        // For the prover: reading a field tells what the invariant says of it.
         let _unit = &self.unit;
     }
 }

@@ -6,8 +6,8 @@ ghost use Rattle.bn_model.specs.Words as flat;
 use itoa::Buffer;
 use std::str::from_utf8;
 
-/// The number of a word, where it is from least to most. None exactly where the word isn't the decimal spelling
-/// of such a number, without leading zeros.
+/// The number of a word, where it is from least to most. None exactly where the word isn't the
+/// decimal spelling of such a number, without leading zeros.
 pub fn number_between(word: &[u8], least: u64, most: u64) -> Option<u64>
     ensures exact { result ≡ flat.number_between least most word.now }
     ensures range { IfSome result (λ n. (least ≤ n) × (n ≤ most)) }

@@ -7,8 +7,8 @@ ghost use Rattle.bn_model.specs.Words as flat;
 use crate::number::number_between;
 use bn_model::RunOptions;
 
-/// The options that words in pairs, a name and a value, add to others. None exactly where a name is none, comes
-/// twice or lacks a value that it takes.
+/// The options that words in pairs, a name and a value, add to others. None exactly where a name is
+/// none, comes twice or lacks a value that it takes.
 #[tactic(auto, unfolding(bn_model::specs::Words::options_of))]
 pub fn options_of(options: RunOptions, words: &[Vec<u8>]) -> Option<RunOptions>
     requires { AreInRange options }

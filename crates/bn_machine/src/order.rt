@@ -19,8 +19,8 @@ pub struct RunOrder<'a> {
     pub steps: u64,
 }
 
-/// The run that the words order. None exactly where they aren't `run`, a name in UTF-8 that isn't empty and doesn't
-/// begin with `-`, and options.
+/// The run that the words order. None exactly where they aren't `run`, a name in UTF-8 that isn't
+/// empty and doesn't begin with `-`, and options.
 #[tactic(auto, unfolding(bn_model::specs::Words::order_of))]
 pub fn order_of(words: &[Vec<u8>]) -> Option<RunOrder<'_>>
     ensures read { MatchOption result

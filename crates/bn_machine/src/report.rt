@@ -1,13 +1,12 @@
 //! Reports that are made and written.
-ghost use Rattle.std.specs.Prelude.{◌≡◌, ◌≢◌, ◌+◌, ◌*◌, ◌^◌, ◌++◌, ◌<◌, ◌≤◌, Some, length, false};
-ghost use Rattle.bn_edge.specs.Counts.{CanCount};
+ghost use Rattle.std.specs.Prelude.{◌≡◌, ◌≢◌, ◌+◌, ◌*◌, ◌^◌, ◌++◌, ◌<◌, ◌≤◌, None, Some, length, false};
 ghost use Rattle.bn_model.specs.Reporting as flat;
 ghost use Rattle.bn_model.specs.Loading.{Ram};
 ghost use Rattle.bn_model.specs.Running.{course, turns};
-ghost use Rattle.bn_machine.specs.Headline.{Answers, CountsSinkFault};
+ghost use Rattle.bn_machine.specs.Loads.{raw_image};
+ghost use Rattle.bn_machine.specs.Story.{Answers, CountsSinkFault};
 ghost use Rattle.bn_machine.specs.Orders.{CanRun, plain};
 
-use crate::line_buf::{append, append_number};
 use crate::load::Load;
 use crate::loading::load;
 use crate::machine::Machine;
@@ -16,6 +15,7 @@ use crate::writing::write_all;
 use crate::{LineBuf, Loaded, Settings};
 use arrayvec::ArrayVec;
 use bn_edge::Sink;
+use bn_trace::text::{append, append_number};
 use bn_types::{Ending, Finish, ImageFault, ImageSort, Line, Status, Steps};
 use std::alloc::Global;
 use std::marker::Brand;
@@ -29,10 +29,9 @@ pub fn say<O: Sink>(out: &mut O, text: &[u8], status: Status) -> Status
     requires sink { status ≢ Status.SinkFault }
     requires memory { status ≢ Status.Memory }
     ensures answers { Answers result (record { status = status; text = text.now })
-        (O.written out.old) (O.written out.new) }
+        (O.account out.old) (O.account out.new) }
     ensures spoken { result ≢ Status.Memory }
-    ensures counted { CanCount (O.faults out.old) →
-        CountsSinkFault result (O.faults out.old) (O.faults out.new) }
+    ensures counted { CountsSinkFault result (O.account out.old).faults (O.account out.new).faults }
 {
     match write_all(out, text) {
         Ok(()) => status,
@@ -45,9 +44,8 @@ pub fn say<O: Sink>(out: &mut O, text: &[u8], status: Status) -> Status
 pub fn serve_file<O: Sink>(alloc: Global, order: &RunOrder<'_>, file: &[u8], out: &mut O) -> Status
     requires { CanRun order.now }
     ensures answers { Answers result (flat.report_of_file (Some file.now) (plain order.now))
-        (O.written out.old) (O.written out.new) }
-    ensures counted { CanCount (O.faults out.old) →
-        CountsSinkFault result (O.faults out.old) (O.faults out.new) }
+        (O.account out.old) (O.account out.new) }
+    ensures counted { CountsSinkFault result (O.account out.old).faults (O.account out.new).faults }
 {
     match load(alloc, file, order.ram_pages as usize * 4096) {
         Ok(Load::Ram(bytes)) => serve_image(alloc, order, bytes, out),
@@ -61,10 +59,9 @@ pub fn serve_file<O: Sink>(alloc: Global, order: &RunOrder<'_>, file: &[u8], out
 fn say_image_fault<O: Sink>(fault: &ImageFault, out: &mut O) -> Status
     ensures answers { Answers result
         (record { status = Status.Image; text = flat.fault_line fault.now })
-        (O.written out.old) (O.written out.new) }
+        (O.account out.old) (O.account out.new) }
     ensures spoken { result ≢ Status.Memory }
-    ensures counted { CanCount (O.faults out.old) →
-        CountsSinkFault result (O.faults out.old) (O.faults out.new) }
+    ensures counted { CountsSinkFault result (O.account out.old).faults (O.account out.new).faults }
 {
     let mut line = ArrayVec::new();
     append(&mut line, b"image ");
@@ -83,17 +80,28 @@ fn append_sort(line: &mut ArrayVec<u8, 512>, sort: ImageSort)
     match sort {
         ImageSort::Long => append(line, b"long"),
         ImageSort::Empty => append(line, b"empty"),
+        ImageSort::Short => append(line, b"short"),
+        ImageSort::Class => append(line, b"class"),
+        ImageSort::Order => append(line, b"order"),
+        ImageSort::Kind => append(line, b"kind"),
+        ImageSort::Machine => append(line, b"machine"),
+        ImageSort::Headers => append(line, b"headers"),
+        ImageSort::Sizes => append(line, b"sizes"),
+        ImageSort::Bytes => append(line, b"bytes"),
+        ImageSort::Range => append(line, b"range"),
+        ImageSort::Nothing => append(line, b"none"),
+        ImageSort::Entry => append(line, b"entry"),
     }
 }
 
-#[tactic(auto, unfolding(bn_model::specs::Opening::opening, bn_model::specs::Reporting::raw_entry))]
+#[tactic(auto, unfolding(bn_model::specs::Opening::opening, bn_model::specs::Loading::raw_entry))]
 fn serve_image<O: Sink>(alloc: Global, order: &RunOrder<'_>, bytes: Vec<u8>, out: &mut O) -> Status
     requires order { CanRun order.now }
     requires whole { length bytes.items ≡ 4096 * order.now.ram_pages }
-    ensures answers { Answers result (flat.report_of_load (Ram bytes.items) (plain order.now))
-        (O.written out.old) (O.written out.new) }
-    ensures counted { CanCount (O.faults out.old) →
-        CountsSinkFault result (O.faults out.old) (O.faults out.new) }
+    ensures answers { Answers result
+        (flat.report_of_load (Ram (raw_image bytes.items)) (plain order.now))
+        (O.account out.old) (O.account out.new) }
+    ensures counted { CountsSinkFault result (O.account out.old).faults (O.account out.new).faults }
 {
     let image = Loaded {
         bytes,
@@ -116,16 +124,14 @@ fn serve_machine<O: Sink, L: Ledger>(
     blank: Blank,
 ) -> Status
     requires on { machine.state.off ≡ false }
-    requires harts { 0 < length machine.state.harts }
     requires clock { machine.state.clock + limit < 2 ^ 64 }
     requires name { blank.name ≡ L.name }
     requires parts { blank.parts ≡ L.parts }
     requires some { 0 < L.parts }
     ensures answers { Answers result
-        (flat.report_of_course (course machine.state (turns limit)))
-        (O.written out.old) (O.written out.new) }
-    ensures counted { CanCount (O.faults out.old) →
-        CountsSinkFault result (O.faults out.old) (O.faults out.new) }
+        (flat.report_of_course (course None machine.state (turns limit)))
+        (O.account out.old) (O.account out.new) }
+    ensures counted { CountsSinkFault result (O.account out.old).faults (O.account out.new).faults }
 {
     let mut steps = Steps::<L>::open(blank);
     match machine.run(limit, out, &mut steps) {
@@ -142,10 +148,9 @@ fn close<O: Sink, L: Ledger>(
     steps: &mut Steps<L>,
 ) -> Status
     ensures answers { Answers result (flat.closing ending machine.now.state)
-        (O.written out.old) (O.written out.new) }
+        (O.account out.old) (O.account out.new) }
     ensures spoken { result ≢ Status.Memory }
-    ensures counted { CanCount (O.faults out.old) →
-        CountsSinkFault result (O.faults out.old) (O.faults out.new) }
+    ensures counted { CountsSinkFault result (O.account out.old).faults (O.account out.new).faults }
 {
     match ending {
         Ending::Shutdown => say_end(machine, Finish::Shutdown, Status::Ended, out, steps),
@@ -165,10 +170,9 @@ fn say_end<O: Sink, L: Ledger>(
     requires memory { status ≢ Status.Memory }
     ensures answers { Answers result
         (record { status = status; text = flat.end_line machine.now.state finish })
-        (O.written out.old) (O.written out.new) }
+        (O.account out.old) (O.account out.new) }
     ensures spoken { result ≢ Status.Memory }
-    ensures counted { CanCount (O.faults out.old) →
-        CountsSinkFault result (O.faults out.old) (O.faults out.new) }
+    ensures counted { CountsSinkFault result (O.account out.old).faults (O.account out.new).faults }
 {
     let mut line = LineBuf::new();
     line.push(&Line::End {

@@ -7,21 +7,30 @@ use bn_types::Status;
 use std::alloc::{AllocError, Global};
 use std::process::Abort;
 
+mod calls;
 mod changed_tables;
+mod counters;
 mod execution;
 mod gigapages;
 mod hello;
+mod interrupts;
 mod memory_unit;
 mod non_canonical;
 mod outside;
 mod permissions;
 mod precedence;
 mod probe;
+mod registers;
 mod roots;
+mod secure_words;
 mod sizes;
 mod superpages;
 mod top;
+mod trap_values;
+mod upper_half;
 mod user;
+mod user_call;
+mod user_ident;
 mod user_pages;
 mod walk;
 
@@ -64,8 +73,8 @@ fn text(alloc: Global, lines: &[&str]) -> Result<String, AllocError> {
     Ok(text)
 }
 
-/// Runs an image for at most so many events, and answers the status where its trace is these lines. The last
-/// of them has the number of events and SHA-256 of RAM at the end.
+/// Runs an image for at most so many events, and answers the status where its trace is these lines.
+/// The last of them has the number of events and SHA-256 of RAM at the end.
 fn run_image(
     rt: &impl Abort,
     alloc: Global,

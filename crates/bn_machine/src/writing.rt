@@ -1,6 +1,6 @@
 ghost use Rattle.std.specs.Prelude.{◌≡◌, OnOk, OnErr};
-ghost use Rattle.bn_edge.specs.Counts.{CanCount, CountsRefusals};
-ghost use Rattle.bn_edge.specs.Written.{appended, WritesFront};
+ghost use Rattle.bn_edge.specs.Counts.{CountsRefusals};
+ghost use Rattle.bn_edge.specs.Written.{Writes, WritesFront};
 
 use bn_edge::{Sink, SinkFailed};
 
@@ -8,10 +8,9 @@ use bn_edge::{Sink, SinkFailed};
 ///
 /// `SinkFailed` comes from the write that failed, after a proper front of the piece.
 pub fn write_all<O: Sink>(out: &mut O, piece: &[u8]) -> Result<(), SinkFailed>
-    ensures ok { OnOk result (O.written out.new ≡ appended (O.written out.old) piece.now) }
-    ensures err { OnErr result (WritesFront (O.written out.old) (O.written out.new) piece.now) }
-    ensures failed { CanCount (O.faults out.old) →
-        CountsRefusals result (O.faults out.old) (O.faults out.new) }
+    ensures ok { OnOk result (Writes (O.account out.old) (O.account out.new) piece.now) }
+    ensures err { OnErr result (WritesFront (O.account out.old) (O.account out.new) piece.now) }
+    ensures failed { CountsRefusals result (O.account out.old).faults (O.account out.new).faults }
 {
     let mut rest = piece;
     while !rest.is_empty() {

@@ -21,20 +21,20 @@ use Rattle.bn_model.specs.CsrFile.{
   Cycle,
   Time,
   Instret,
-  aligned,
   csr_of,
   csr_write,
-  csr_written,
   is_satp_mode,
   reset_csrs,
   satp_mode,
-  satp_written_if,
-  written_if_known,
+  with_csr,
+  with_csr_if_known,
+  with_satp_if,
+  without_low_bits,
 }
 use Rattle.bn_model.specs.Trapping.{after_software, after_sret, after_trap, code_of, is_interrupt, trap_target, vector}
 
-aligned-mod : (value : ℕ) → aligned value % 4 ≡ 0
-aligned-mod value = omega arith
+without_low_bits-mod : (value : ℕ) → without_low_bits value % 4 ≡ 0
+without_low_bits-mod value = omega arith
 
 pub HasCsrForms-reset : HasCsrForms reset_csrs
 HasCsrForms-reset = record { sepc_aligned = refl; base_aligned = refl; known_mode = refl }
@@ -64,71 +64,71 @@ HasCsrForms-software c h = record {
   known_mode = h.known_mode;
 }
 
-satp_written-forms :
+pub with_satp-forms :
     (b : Bool) (value : ℕ) (c : CsrFile) →
     is_satp_mode (satp_mode value) ≡ b →
     HasCsrForms c →
-    HasCsrForms (satp_written_if b value c)
-satp_written-forms true value c e h = record {
+    HasCsrForms (with_satp_if b value c)
+with_satp-forms true value c e h = record {
   sepc_aligned = h.sepc_aligned;
   base_aligned = h.base_aligned;
   known_mode = e;
 }
-satp_written-forms false value c e h = h
+with_satp-forms false value c e h = h
 
-written-forms :
-    (csr : Csr) (value : ℕ) (c : CsrFile) → HasCsrForms c → IfSome (csr_written csr value c) HasCsrForms
-written-forms Sstatus value c h = record {
+pub with_csr-forms :
+    (csr : Csr) (value : ℕ) (c : CsrFile) → HasCsrForms c → IfSome (with_csr csr value c) HasCsrForms
+with_csr-forms Sstatus value c h = record {
   sepc_aligned = h.sepc_aligned;
   base_aligned = h.base_aligned;
   known_mode = h.known_mode;
 }
-written-forms Sie value c h = record {
+with_csr-forms Sie value c h = record {
   sepc_aligned = h.sepc_aligned;
   base_aligned = h.base_aligned;
   known_mode = h.known_mode;
 }
-written-forms Stvec value c h = record {
+with_csr-forms Stvec value c h = record {
   sepc_aligned = h.sepc_aligned;
-  base_aligned = aligned-mod value;
+  base_aligned = without_low_bits-mod value;
   known_mode = h.known_mode;
 }
-written-forms Sscratch value c h = record {
-  sepc_aligned = h.sepc_aligned;
-  base_aligned = h.base_aligned;
-  known_mode = h.known_mode;
-}
-written-forms Sepc value c h = record {
-  sepc_aligned = aligned-mod value;
-  base_aligned = h.base_aligned;
-  known_mode = h.known_mode;
-}
-written-forms Scause value c h = record {
+with_csr-forms Sscratch value c h = record {
   sepc_aligned = h.sepc_aligned;
   base_aligned = h.base_aligned;
   known_mode = h.known_mode;
 }
-written-forms Stval value c h = record {
+with_csr-forms Sepc value c h = record {
+  sepc_aligned = without_low_bits-mod value;
+  base_aligned = h.base_aligned;
+  known_mode = h.known_mode;
+}
+with_csr-forms Scause value c h = record {
   sepc_aligned = h.sepc_aligned;
   base_aligned = h.base_aligned;
   known_mode = h.known_mode;
 }
-written-forms Sip value c h = record {
+with_csr-forms Stval value c h = record {
   sepc_aligned = h.sepc_aligned;
   base_aligned = h.base_aligned;
   known_mode = h.known_mode;
 }
-written-forms Satp value c h = satp_written-forms (is_satp_mode (satp_mode value)) value c refl h
-written-forms Cycle value c h = tt
-written-forms Time value c h = tt
-written-forms Instret value c h = tt
+with_csr-forms Sip value c h = record {
+  sepc_aligned = h.sepc_aligned;
+  base_aligned = h.base_aligned;
+  known_mode = h.known_mode;
+}
+with_csr-forms Satp value c h = with_satp-forms (is_satp_mode (satp_mode value)) value c refl h
+with_csr-forms Cycle value c h = tt
+with_csr-forms Time value c h = tt
+with_csr-forms Instret value c h = tt
 
 known-forms :
     (csr : Option Csr) (value : ℕ) (c : CsrFile) →
     HasCsrForms c →
-    IfSome (written_if_known csr value c) HasCsrForms
+    IfSome (with_csr_if_known csr value c) HasCsrForms
 known-forms None value c h = tt
-known-forms (Some csr) value c h = written-forms csr value c h
+known-forms (Some csr) value c h = with_csr-forms csr value c h
 
 pub HasCsrForms-write :
     (c : CsrFile) (number value : ℕ) (mode : Mode) →

@@ -4,7 +4,8 @@ use Rattle.std.specs.Prelude.{ℤ, pos, neg_ℤ, ◌-ℤ◌, ◌≤ℤ◌, ◌<�
 use Rattle.std.proofs.lemmas.Int.{ints}
 use Rattle.std.proofs.lemmas.Bool.Decides.{nat_tests}
 use Rattle.bn_types.specs.declared.reg.Reg.{Reg}
-use Rattle.bn_model.specs.Fields.{signed, opcode, rd, funct3, rs1, rs2, funct7, funct6, shamt6, shamt5, funct12, i_immediate, s_immediate, b_immediate, u_immediate, j_immediate}
+use Rattle.bn_model.specs.TwosComplement.{signed_of}
+use Rattle.bn_model.specs.Fields.{opcode, rd, funct3, rs1, rs2, funct7, funct6, shamt6, shamt5, funct12, i_immediate, s_immediate, b_immediate, u_immediate, j_immediate}
 use Rattle.bn_model.specs.InsnRanges.{FitsBits, IsMultipleOf, IsRegister}
 use Rattle.bn_model.specs.Encoding.{FormatR, FormatI, FormatS, FormatB, FormatU, FormatJ, FormatShift, FormatShiftW, FormatNumber}
 
@@ -270,50 +271,50 @@ FormatR-sum w o f g d a b ho hf hg hd ha hb e = record {
   rs2 = register b (w / 2 ^ 20 % 32) (omega arith);
 }
 
-pub FormatI-sum : (w : ℕ) (o f : ℕ) (d a : Reg) (n : ℤ) (x : ℕ) → o < 128 → f < 8 → IsRegister d → IsRegister a → x < 4096 → signed 12 x ≡ n → w ≡ o + f * 2 ^ 12 + d.0 * 2 ^ 7 + a.0 * 2 ^ 15 + x * 2 ^ 20 → FormatI w o f d a n
+pub FormatI-sum : (w : ℕ) (o f : ℕ) (d a : Reg) (n : ℤ) (x : ℕ) → o < 128 → f < 8 → IsRegister d → IsRegister a → x < 4096 → signed_of 12 x ≡ n → w ≡ o + f * 2 ^ 12 + d.0 * 2 ^ 7 + a.0 * 2 ^ 15 + x * 2 ^ 20 → FormatI w o f d a n
 unfolding opcode funct3 rd rs1 i_immediate
 FormatI-sum w o f d a n x ho hf hd ha hx hn e = record {
   opcode = omega arith;
   funct3 = omega arith;
   rd = register d (w / 2 ^ 7 % 32) (omega arith);
   rs1 = register a (w / 2 ^ 15 % 32) (omega arith);
-  immediate = (let q : w / 2 ^ 20 % 4096 ≡ x = omega arith in ap (signed 12) q) ∙ hn;
+  immediate = (let q : w / 2 ^ 20 % 4096 ≡ x = omega arith in ap (signed_of 12) q) ∙ hn;
 }
 
-pub FormatS-sum : (w : ℕ) (o f : ℕ) (a b : Reg) (n : ℤ) (x : ℕ) → o < 128 → f < 8 → IsRegister a → IsRegister b → x < 4096 → signed 12 x ≡ n → w ≡ o + f * 2 ^ 12 + a.0 * 2 ^ 15 + b.0 * 2 ^ 20 + x % 32 * 2 ^ 7 + x / 32 * 2 ^ 25 → FormatS w o f a b n
+pub FormatS-sum : (w : ℕ) (o f : ℕ) (a b : Reg) (n : ℤ) (x : ℕ) → o < 128 → f < 8 → IsRegister a → IsRegister b → x < 4096 → signed_of 12 x ≡ n → w ≡ o + f * 2 ^ 12 + a.0 * 2 ^ 15 + b.0 * 2 ^ 20 + x % 32 * 2 ^ 7 + x / 32 * 2 ^ 25 → FormatS w o f a b n
 unfolding opcode funct3 rs1 rs2 s_immediate
 FormatS-sum w o f a b n x ho hf ha hb hx hn e = record {
   opcode = omega arith;
   funct3 = omega arith;
   rs1 = register a (w / 2 ^ 15 % 32) (omega arith);
   rs2 = register b (w / 2 ^ 20 % 32) (omega arith);
-  immediate = (let q : w / 2 ^ 25 % 128 * 32 + w / 2 ^ 7 % 32 ≡ x = omega arith in ap (signed 12) q) ∙ hn;
+  immediate = (let q : w / 2 ^ 25 % 128 * 32 + w / 2 ^ 7 % 32 ≡ x = omega arith in ap (signed_of 12) q) ∙ hn;
 }
 
-pub FormatB-sum : (w : ℕ) (o f : ℕ) (a b : Reg) (n : ℤ) (x : ℕ) → o < 128 → f < 8 → IsRegister a → IsRegister b → x < 8192 → x % 2 ≡ 0 → signed 13 x ≡ n → w ≡ o + f * 2 ^ 12 + a.0 * 2 ^ 15 + b.0 * 2 ^ 20 + x / 2048 % 2 * 2 ^ 7 + x / 2 % 16 * 2 ^ 8 + x / 32 % 64 * 2 ^ 25 + x / 4096 * 2 ^ 31 → FormatB w o f a b n
+pub FormatB-sum : (w : ℕ) (o f : ℕ) (a b : Reg) (n : ℤ) (x : ℕ) → o < 128 → f < 8 → IsRegister a → IsRegister b → x < 8192 → x % 2 ≡ 0 → signed_of 13 x ≡ n → w ≡ o + f * 2 ^ 12 + a.0 * 2 ^ 15 + b.0 * 2 ^ 20 + x / 2048 % 2 * 2 ^ 7 + x / 2 % 16 * 2 ^ 8 + x / 32 % 64 * 2 ^ 25 + x / 4096 * 2 ^ 31 → FormatB w o f a b n
 unfolding opcode funct3 rs1 rs2 b_immediate
 FormatB-sum w o f a b n x ho hf ha hb hx hy hn e = record {
   opcode = omega arith;
   funct3 = omega arith;
   rs1 = register a (w / 2 ^ 15 % 32) (omega arith);
   rs2 = register b (w / 2 ^ 20 % 32) (omega arith);
-  immediate = (let q : w / 2 ^ 31 % 2 * 4096 + w / 2 ^ 7 % 2 * 2048 + w / 2 ^ 25 % 64 * 32 + w / 2 ^ 8 % 16 * 2 ≡ x = omega arith in ap (signed 13) q) ∙ hn;
+  immediate = (let q : w / 2 ^ 31 % 2 * 4096 + w / 2 ^ 7 % 2 * 2048 + w / 2 ^ 25 % 64 * 32 + w / 2 ^ 8 % 16 * 2 ≡ x = omega arith in ap (signed_of 13) q) ∙ hn;
 }
 
-pub FormatU-sum : (w : ℕ) (o : ℕ) (d : Reg) (n : ℤ) (x : ℕ) → o < 128 → IsRegister d → x < 2 ^ 32 → x % 4096 ≡ 0 → signed 32 x ≡ n → w ≡ o + d.0 * 2 ^ 7 + x → FormatU w o d n
+pub FormatU-sum : (w : ℕ) (o : ℕ) (d : Reg) (n : ℤ) (x : ℕ) → o < 128 → IsRegister d → x < 2 ^ 32 → x % 4096 ≡ 0 → signed_of 32 x ≡ n → w ≡ o + d.0 * 2 ^ 7 + x → FormatU w o d n
 unfolding opcode rd u_immediate
 FormatU-sum w o d n x ho hd hx hy hn e = record {
   opcode = omega arith;
   rd = register d (w / 2 ^ 7 % 32) (omega arith);
-  immediate = (let q : w / 2 ^ 12 % 2 ^ 20 * 4096 ≡ x = omega arith in ap (signed 32) q) ∙ hn;
+  immediate = (let q : w / 2 ^ 12 % 2 ^ 20 * 4096 ≡ x = omega arith in ap (signed_of 32) q) ∙ hn;
 }
 
-pub FormatJ-sum : (w : ℕ) (o : ℕ) (d : Reg) (n : ℤ) (x : ℕ) → o < 128 → IsRegister d → x < 2 ^ 21 → x % 2 ≡ 0 → signed 21 x ≡ n → w ≡ o + d.0 * 2 ^ 7 + x / 4096 % 256 * 2 ^ 12 + x / 2048 % 2 * 2 ^ 20 + x / 2 % 1024 * 2 ^ 21 + x / 2 ^ 20 * 2 ^ 31 → FormatJ w o d n
+pub FormatJ-sum : (w : ℕ) (o : ℕ) (d : Reg) (n : ℤ) (x : ℕ) → o < 128 → IsRegister d → x < 2 ^ 21 → x % 2 ≡ 0 → signed_of 21 x ≡ n → w ≡ o + d.0 * 2 ^ 7 + x / 4096 % 256 * 2 ^ 12 + x / 2048 % 2 * 2 ^ 20 + x / 2 % 1024 * 2 ^ 21 + x / 2 ^ 20 * 2 ^ 31 → FormatJ w o d n
 unfolding opcode rd j_immediate
 FormatJ-sum w o d n x ho hd hx hy hn e = record {
   opcode = omega arith;
   rd = register d (w / 2 ^ 7 % 32) (omega arith);
-  immediate = (let q : w / 2 ^ 31 % 2 * 2 ^ 20 + w / 2 ^ 12 % 256 * 4096 + w / 2 ^ 20 % 2 * 2048 + w / 2 ^ 21 % 1024 * 2 ≡ x = omega arith in ap (signed 21) q) ∙ hn;
+  immediate = (let q : w / 2 ^ 31 % 2 * 2 ^ 20 + w / 2 ^ 12 % 256 * 4096 + w / 2 ^ 20 % 2 * 2048 + w / 2 ^ 21 % 1024 * 2 ≡ x = omega arith in ap (signed_of 21) q) ∙ hn;
 }
 
 pub FormatShift-sum : (w : ℕ) (o f g : ℕ) (d a : Reg) (n : ℕ) → o < 128 → f < 8 → g < 64 → IsRegister d → IsRegister a → n < 64 → w ≡ o + f * 2 ^ 12 + g * 2 ^ 26 + d.0 * 2 ^ 7 + a.0 * 2 ^ 15 + n * 2 ^ 20 → FormatShift w o f g d a n

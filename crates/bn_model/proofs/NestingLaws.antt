@@ -1,13 +1,12 @@
 -- Laws of entries, of the placement and of the guest's pages, after a frame or an entry changes.
-use Rattle.std.proofs.Common.{◌≡◌, ℕ, ◌+◌, ◌*◌, ◌/◌, ◌%◌, ◌^◌, ◌<◌, ◌≤◌, ◌⊎◌, Bool, true, false, nat_lt, nat_eq, List, [], Some, None, length, get_or, set, inl, inr, refl, sym, ap, subst, ◌∙◌, arith, get_or-set_same, get_or-set_other}
-use Rattle.std.proofs.lemmas.Bool.{ltb-true, lt-ltb, cases_eq, cases_lt, eqb-true}
+use Rattle.std.proofs.Common.{◌≡◌, ℕ, ◌+◌, ◌*◌, ◌/◌, ◌^◌, ◌<◌, ◌⊎◌, Bool, true, false, nat_lt, nat_eq, List, [], Some, None, length, get_or, set, inl, inr, refl, sym, ap, subst, ◌∙◌, arith, get_or-set_same, get_or-set_other}
+use Rattle.std.proofs.lemmas.Bool.{ltb-true, lt-ltb, cases_eq, eqb-true}
 use Rattle.std.proofs.lemmas.List.{length-set, same_lists}
 use Rattle.std.proofs.lemmas.List.FromFn.{get_or-map-range_with_len, length-map-range_with_len}
-use Rattle.bn_types.specs.Numbers.{AreWhole, page_at, number_at, with_number, zero_page}
+use Rattle.bn_types.specs.Numbers.{AreWhole, page_at, number_at, zero_page}
 use Rattle.bn_types.specs.declared.frame.Frame.{Frame}
 use Rattle.bn_types.specs.declared.width.Width.TheVariants.{B8}
-use Rattle.bn_model.specs.Nesting.{Nested, entry_at, leaf_to, frame_of, frame_when, low_entry, placed_in, place_when, page_in, contents_in, with_entry}
-use Rattle.bn_model.proofs.PageNumbers.{number_at-with_number, number_at-elsewhere}
+use Rattle.bn_model.specs.Nesting.{Nested, entry_at, leaf_to, frame_of, frame_when, low_entry, placed_in, place_when, page_in, contents_in}
 
 -- a frame that changes leaves the entries of the others
 pub entry-other_frame : (frames : List (List ℕ)) (f : ℕ) (page : List ℕ) (t i : ℕ) → (t ≡ f → ⊥)
@@ -15,42 +14,6 @@ pub entry-other_frame : (frames : List (List ℕ)) (f : ℕ) (page : List ℕ) (
 unfolding entry_at
 entry-other_frame frames f page t i ne =
     ap (λ bytes. number_at B8 bytes (8 * i)) (get_or-set_other frames f t page [] ne)
-
--- an entry that was written
-pub entry-written : (frames : List (List ℕ)) (t i v : ℕ) → t < length frames → length (page_at frames t) ≡ 4096
-    → i < 512 → v < 2 ^ 64 → entry_at (with_entry frames t i v) t i ≡ v
-unfolding entry_at
-entry-written frames t i v lt size li lv =
-    ap (λ bytes. number_at B8 bytes (8 * i)) (get_or-set_same frames t (with_number B8 (page_at frames t) (8 * i) v) [] lt)
-    ∙ number_at-with_number B8 (page_at frames t) (8 * i) v (omega arith)
-    ∙ small
-  where
-    small : v % 2 ^ 64 ≡ v
-    small = omega arith
-
--- an entry leaves the others of its table
-pub entry-other_index : (frames : List (List ℕ)) (t i j v : ℕ) → t < length frames → length (page_at frames t) ≡ 4096
-    → i < 512 → j < 512 → (j ≡ i → ⊥) → entry_at (with_entry frames t i v) t j ≡ entry_at frames t j
-unfolding entry_at
-entry-other_index frames t i j v lt size li lj ne =
-    ap (λ bytes. number_at B8 bytes (8 * j)) (get_or-set_same frames t (with_number B8 (page_at frames t) (8 * i) v) [] lt)
-    ∙ number_at-elsewhere B8 B8 (page_at frames t) (8 * i) (8 * j) v (omega arith) apart
-  where
-    apart : (8 * j + 8 ≤ 8 * i) ⊎ (8 * i + 8 ≤ 8 * j)
-    apart = go (cases_lt j i) where
-      go : (j < i) ⊎ (i ≤ j) → (8 * j + 8 ≤ 8 * i) ⊎ (8 * i + 8 ≤ 8 * j)
-      go (inl h) = inl (omega arith)
-      go (inr h) = inr (omega arith)
-
--- an entry leaves those elsewhere
-pub entry-elsewhere : (frames : List (List ℕ)) (t i u j v : ℕ) → t < length frames → length (page_at frames t) ≡ 4096
-    → i < 512 → j < 512 → (u ≡ t → j ≡ i → ⊥) → entry_at (with_entry frames t i v) u j ≡ entry_at frames u j
-entry-elsewhere frames t i u j v lt size li lj ne = go (cases_eq u t) where
-  go : (u ≡ t) ⊎ (u ≡ t → ⊥) → entry_at (with_entry frames t i v) u j ≡ entry_at frames u j
-  go (inl e) =
-      subst (λ (w : ℕ). entry_at (with_entry frames t i v) w j ≡ entry_at frames w j) (sym e)
-      (entry-other_index frames t i j v lt size li lj (ne e))
-  go (inr d) = entry-other_frame frames t (with_number B8 (page_at frames t) (8 * i) v) u j d
 
 -- a page whose entry stays keeps its place
 pub placed-kept : (ram : ℕ) (old new : List (List ℕ)) (page : ℕ)

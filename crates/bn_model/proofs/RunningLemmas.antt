@@ -1,40 +1,77 @@
 -- Laws of runs.
-use Rattle.std.proofs.Common.{◌≡◌, ℕ, suc, Bool, true, false, List, [], ◌∷◌, ◌++◌, refl, ap, ◌∙◌}
+use Rattle.std.proofs.Common.{◌≡◌, ℕ, suc, zero, ◌+◌, ◌-◌, ◌<◌, Bool, true, false, List, [], ◌∷◌, ◌++◌, Option, None, refl, ap, ◌∙◌, sym, arith}
+use Rattle.std.proofs.lemmas.List.{append_assoc}
 use Rattle.bn_types.specs.declared.ending.Ending.TheVariants.{Shutdown, Limit, Unbuilt}
 use Rattle.bn_types.specs.declared.event.Event.{Event}
 use Rattle.bn_types.specs.declared.event.Event.TheVariants.{Turn}
-use Rattle.bn_model.specs.Running.{Course, course, turns, unless_off, onward}
+use Rattle.bn_types.specs.declared.line.Line.{Line}
+use Rattle.bn_model.specs.Running.{Blind, Course, Run, course, onward, run, state_before, turns, unless_off}
 use Rattle.bn_model.specs.State.{State}
 use Rattle.bn_model.specs.Stepping.{step, lines, is_built_event}
 
+-- ---- a course
+
 -- a state that is off makes no events
-pub course_off : (s : State) (es : List Event) → s.off ≡ true → course s es ≡ record { told = []; ending = Shutdown; last = s }
+pub course_off : (s : State) (es : List Event) → s.off ≡ true → course None s es ≡ record { told = []; ending = Shutdown; last = s }
 unfolding course
 course_off s [] e = rw e refl
 course_off s (event ∷ es) e = rw e refl
 
 -- no events
-pub course_none : (s : State) → s.off ≡ false → course s (turns 0) ≡ record { told = []; ending = Limit; last = s }
-unfolding course turns
+pub course_none : (s : State) → s.off ≡ false → course None s [] ≡ record { told = []; ending = Limit; last = s }
+unfolding course
 course_none s e = rw e refl
 
 -- a run that goes on after an event, if it is built
 abbrev made_if : State → Event → List Event → Bool → Course
-made_if s e es built = onward built s (lines s e) (step s e) (course (step s e) es)
+made_if s e es built = onward built s (lines s e) (course None (step s e) es)
 
-unless_on : (s : State) (e : Event) (es : List Event) → s.off ≡ false → course s (e ∷ es) ≡ made_if s e es (is_built_event s e)
+unless_on : (s : State) (e : Event) (es : List Event) → s.off ≡ false → course None s (e ∷ es) ≡ made_if s e es (is_built_event s e)
 unfolding course
 unless_on s e es on = ap (λ off. unless_off off s (made_if s e es (is_built_event s e))) on
 
 -- an event that isn't built ends the run before it
-pub course_unbuilt : (s : State) (n : ℕ) → s.off ≡ false → is_built_event s (Turn 0) ≡ false
-    → course s (turns (suc n)) ≡ record { told = []; ending = Unbuilt; last = s }
-unfolding course turns
-course_unbuilt s n on built = unless_on s (Turn 0) (turns n) on ∙ ap (made_if s (Turn 0) (turns n)) built
+pub course_unbuilt : (s : State) (e : Event) (es : List Event) → s.off ≡ false → is_built_event s e ≡ false
+    → course None s (e ∷ es) ≡ record { told = []; ending = Unbuilt; last = s }
+course_unbuilt s e es on built = unless_on s e es on ∙ ap (made_if s e es) built
 
 -- a built event, and the run of the others
-pub course_built : (s : State) (n : ℕ) → s.off ≡ false → is_built_event s (Turn 0) ≡ true
-    → course s (turns (suc n))
-    ≡ (let rest = course (step s (Turn 0)) (turns n) in record rest { told = lines s (Turn 0) ++ rest.told })
-unfolding course turns
-course_built s n on built = unless_on s (Turn 0) (turns n) on ∙ ap (made_if s (Turn 0) (turns n)) built
+pub course_built : (s : State) (e : Event) (es : List Event) → s.off ≡ false → is_built_event s e ≡ true
+    → course None s (e ∷ es)
+    ≡ (let rest = course None (step s e) es in record rest { told = lines s e ++ rest.told })
+course_built s e es on built = unless_on s e es on ∙ ap (made_if s e es) built
+
+-- ---- runs of some events
+
+abbrev onto : List Line → Run → Run
+onto told rest = record rest { told = told ++ rest.told }
+
+-- a run of some events and then of others
+abbrev pub run_on : Option Blind → Run → List Event → Run
+run_on blind first es = onto first.told (run blind first.last es)
+
+pub run-append : (blind : Option Blind) (s : State) (es fs : List Event) → run blind s (es ++ fs) ≡ run_on blind (run blind s es) fs
+unfolding run
+run-append blind s [] fs = refl
+run-append blind s (e ∷ es) fs =
+    let before = state_before blind s in
+    ap (onto (lines before e)) (run-append blind (step before e) es fs)
+    ∙ ap (λ (told : List Line). record { told = told; last = (run blind (run blind (step before e) es).last fs).last })
+    (sym (append_assoc (lines before e) (run blind (step before e) es).told _))
+
+-- ---- turns of hart 0
+
+turns-plus : (m k : ℕ) → turns (m + suc k) ≡ turns m ++ Turn 0 ∷ turns k
+unfolding turns
+turns-plus zero k = let e : zero + suc k ≡ suc k = omega arith in ap turns e
+turns-plus (suc m) k =
+    let e : suc m + suc k ≡ suc (m + suc k) = omega arith in
+    ap turns e ∙ ap (λ (es : List Event). Turn 0 ∷ es) (turns-plus m k)
+
+pub turns-more : (n : ℕ) → turns (n + 1) ≡ turns n ++ Turn 0 ∷ []
+unfolding turns
+turns-more n = turns-plus n zero
+
+pub turns-split : (made limit : ℕ) → made < limit → turns limit ≡ turns made ++ Turn 0 ∷ turns (limit - (made + 1))
+turns-split made limit below = let split : limit ≡ made + suc (limit - (made + 1)) = omega arith in
+    ap turns split ∙ turns-plus made (limit - (made + 1))

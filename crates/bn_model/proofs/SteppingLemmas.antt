@@ -1,75 +1,76 @@
 -- Laws of one step.
-use Rattle.std.proofs.Common.{◌≡◌, ℕ, ◌+◌, true, false, length, refl}
+use Rattle.std.proofs.Common.{◌≡◌, ℕ, zero, suc, ◌+◌, List, [], ◌∷◌, length, refl, ap, ◌∙◌}
 use Rattle.std.proofs.lemmas.List.{length-set}
 use Rattle.bn_types.specs.declared.event.Event.{Event}
 use Rattle.bn_types.specs.declared.event.Event.TheVariants.{Turn, Key, Poke, Peek}
+use Rattle.bn_types.specs.declared.cause.Cause.{Cause}
 use Rattle.bn_model.specs.Deciding.{decision_of}
-use Rattle.bn_model.specs.Decision.{Decision, Unbuilt, Rest, Trap, Next, Set, Jump, Store, Csr, Return, Put, Answer, ShutDown}
-use Rattle.bn_model.specs.State.{State}
-use Rattle.bn_model.specs.Stepping.{step, is_built_event, after_turn, is_built_turn}
+use Rattle.bn_model.specs.Decision.{Decision, Rest, Trap, Deny, Next, Set, Jump, Store, Csr, ReturnFromTrap, Put, Answer, ShutDown, SetTimer, TakeKey, NoKey, Start, Send, Refuse, Launch, Call, Return, Resume, Evict, Tell, SetWord}
+use Rattle.bn_model.specs.Each.{each}
+use Rattle.bn_model.specs.State.{Hart, State, hart_after_answer, hart_at, with_hart}
+use Rattle.bn_model.specs.Stepping.{step, after_trap_in, after_turn, hart_by_mask}
+use Rattle.bn_model.specs.Walking.{access_fault}
 
-harts_after_turn : (s : State) (h : ℕ) (d : Decision) → length (after_turn s h d).harts ≡ length s.harts
-harts_after_turn s h Unbuilt = refl
-harts_after_turn s h Rest = refl
-harts_after_turn s h (Trap cause value) = length-set s.harts h _
-harts_after_turn s h Next = length-set s.harts h _
-harts_after_turn s h (Set rd value) = length-set s.harts h _
-harts_after_turn s h (Jump target rd link) = length-set s.harts h _
-harts_after_turn s h (Store place width value) = length-set s.harts h _
-harts_after_turn s h (Csr rd old csrs) = length-set s.harts h _
-harts_after_turn s h Return = length-set s.harts h _
-harts_after_turn s h (Put byte) = length-set s.harts h _
-harts_after_turn s h (Answer error) = length-set s.harts h _
-harts_after_turn s h ShutDown = length-set s.harts h _
+length-each : {X Y : Type 0} (change : ℕ → X → Y) (i : ℕ) (xs : List X) → length (each change i xs) ≡ length xs
+length-each change i [] = refl
+length-each change i (x ∷ xs) = ap suc (length-each change (suc i) xs)
+
+harts_after_trap : (current : ℕ) (s : State) (h : ℕ) (hart : Hart) (cause : Cause) (value : ℕ)
+    → length (after_trap_in current s h hart cause value).harts ≡ length s.harts
+harts_after_trap zero s h hart cause value = length-set s.harts h _
+harts_after_trap (suc m) s h hart cause value = length-set s.harts h _
+
+harts_after_turn : (s : State) (h : ℕ) (hart : Hart) (d : Decision) → length (after_turn s h hart d).harts ≡ length s.harts
+harts_after_turn s h hart Rest = refl
+harts_after_turn s h hart (Trap cause value) = harts_after_trap hart.current.0 s h hart cause value
+harts_after_turn s h hart (Deny kind va) = harts_after_trap hart.current.0 s h hart (access_fault kind) va
+harts_after_turn s h hart Next = length-set s.harts h _
+harts_after_turn s h hart (Set rd value) = length-set s.harts h _
+harts_after_turn s h hart (Jump target rd link) = length-set s.harts h _
+harts_after_turn s h hart (Store place width value) = length-set s.harts h _
+harts_after_turn s h hart (Csr rd old csrs) = length-set s.harts h _
+harts_after_turn s h hart ReturnFromTrap = length-set s.harts h _
+harts_after_turn s h hart (Put byte) = length-set s.harts h _
+harts_after_turn s h hart (Answer error) = length-set s.harts h _
+harts_after_turn s h hart ShutDown = length-set s.harts h _
+harts_after_turn s h hart (SetTimer timer) = length-set s.harts h _
+harts_after_turn s h hart (TakeKey key rest) = length-set s.harts h _
+harts_after_turn s h hart NoKey = length-set s.harts h _
+harts_after_turn s h hart (Start target pc opaque) =
+    length-set (with_hart s h (hart_after_answer hart 0)).harts target _ ∙ length-set s.harts h _
+harts_after_turn s h hart (Send mask) =
+    length-each (hart_by_mask mask) 0 (with_hart s h (hart_after_answer hart 0)).harts ∙ length-set s.harts h _
+harts_after_turn s h hart (Refuse rd request code) = length-set s.harts h _
+harts_after_turn s h hart (Launch rd judged) = length-set s.harts h _
+harts_after_turn s h hart (Call rd callee entry) = length-set s.harts h _
+harts_after_turn s h hart (Return caller pc) = length-set s.harts h _
+harts_after_turn s h hart (Resume id) = length-set s.harts h _
+harts_after_turn s h hart (Evict rd id count) = length-set s.harts h _
+harts_after_turn s h hart (Tell rd value) = length-set s.harts h _
+harts_after_turn s h hart (SetWord rd index records) = length-set s.harts h _
 
 -- there are as many harts after an event as before
 pub harts_after : (s : State) (e : Event) → length (step s e).harts ≡ length s.harts
 unfolding step
-harts_after s (Turn h) = harts_after_turn s h (decision_of s h)
+harts_after s (Turn h) = harts_after_turn s h (hart_at s h) (decision_of s h)
 harts_after s (Key byte) = refl
 harts_after s (Poke page offset byte) = refl
 harts_after s (Peek page offset) = refl
 
-clock_after_turn : (s : State) (h : ℕ) (d : Decision) → is_built_turn d ≡ true → (after_turn s h d).clock ≡ s.clock + 1
-clock_after_turn s h Unbuilt e = cc
-clock_after_turn s h Rest e = refl
-clock_after_turn s h (Trap cause value) e = refl
-clock_after_turn s h Next e = refl
-clock_after_turn s h (Set rd value) e = refl
-clock_after_turn s h (Jump target rd link) e = refl
-clock_after_turn s h (Store place width value) e = refl
-clock_after_turn s h (Csr rd old csrs) e = refl
-clock_after_turn s h Return e = refl
-clock_after_turn s h (Put byte) e = refl
-clock_after_turn s h (Answer error) e = refl
-clock_after_turn s h ShutDown e = refl
+clock_after_trap : (current : ℕ) (s : State) (h : ℕ) (hart : Hart) (cause : Cause) (value : ℕ)
+    → (after_trap_in current s h hart cause value).clock ≡ s.clock
+clock_after_trap zero s h hart cause value = refl
+clock_after_trap (suc m) s h hart cause value = refl
 
--- a built event is counted by the clock
-pub clock_after : (s : State) (e : Event) → is_built_event s e ≡ true → (step s e).clock ≡ s.clock + 1
-unfolding step is_built_event
-clock_after s (Turn h) e = clock_after_turn s h (decision_of s h) e
-clock_after s (Key byte) e = cc
-clock_after s (Poke page offset byte) e = cc
-clock_after s (Peek page offset) e = cc
+clock_after_turn : (s : State) (h : ℕ) (hart : Hart) (d : Decision) → (after_turn s h hart d).clock ≡ s.clock + 1
+clock_after_turn s h hart (Trap cause value) = ap (λ n. n + 1) (clock_after_trap hart.current.0 s h hart cause value)
+clock_after_turn s h hart (Deny kind va) = ap (λ n. n + 1) (clock_after_trap hart.current.0 s h hart (access_fault kind) va)
+clock_after_turn s h hart d = refl
 
-unbuilt_turn : (s : State) (h : ℕ) (d : Decision) → is_built_turn d ≡ false → after_turn s h d ≡ s
-unbuilt_turn s h Unbuilt e = refl
-unbuilt_turn s h Rest e = cc
-unbuilt_turn s h (Trap cause value) e = cc
-unbuilt_turn s h Next e = cc
-unbuilt_turn s h (Set rd value) e = cc
-unbuilt_turn s h (Jump target rd link) e = cc
-unbuilt_turn s h (Store place width value) e = cc
-unbuilt_turn s h (Csr rd old csrs) e = cc
-unbuilt_turn s h Return e = cc
-unbuilt_turn s h (Put byte) e = cc
-unbuilt_turn s h (Answer error) e = cc
-unbuilt_turn s h ShutDown e = cc
-
--- an event that isn't built changes nothing
-pub unbuilt_step : (s : State) (e : Event) → is_built_event s e ≡ false → step s e ≡ s
-unfolding step is_built_event
-unbuilt_step s (Turn h) e = unbuilt_turn s h (decision_of s h) e
-unbuilt_step s (Key byte) e = refl
-unbuilt_step s (Poke page offset byte) e = refl
-unbuilt_step s (Peek page offset) e = refl
+-- every event is counted by the clock
+pub clock_after : (s : State) (e : Event) → (step s e).clock ≡ s.clock + 1
+unfolding step
+clock_after s (Turn h) = clock_after_turn s h (hart_at s h) (decision_of s h)
+clock_after s (Key byte) = refl
+clock_after s (Poke page offset byte) = refl
+clock_after s (Peek page offset) = refl

@@ -1,7 +1,28 @@
--- What an instruction asks of the machine (Unprivileged ISA, "RV32I Base Integer Instruction Set", "RV64I
--- Base Integer Instruction Set" and "Zicsr"). Sums and differences are of whole numbers, modulo 2^64.
-use Rattle.std.specs.Prelude.{ℕ, ℤ, ◌+◌, ◌-◌, ◌*◌, ◌/◌, ◌%◌, ◌^◌, Bool, true, false, not, ◌==◌, nat_lt, int_lt, slice_index, bit_and, bit_or, bit_xor}
-use Rattle.std.specs.Int.{from_bool, int_shr, w32}
+-- What an instruction asks of the machine (Unprivileged ISA, "RV32I Base Integer Instruction Set",
+-- "RV64I Base Integer Instruction Set" and "Zicsr"). Sums and differences are of whole numbers,
+-- modulo 2^64.
+use Rattle.std.specs.Prelude.{
+  ℕ,
+  ℤ,
+  ◌+◌,
+  ◌-◌,
+  ◌*◌,
+  ◌/◌,
+  ◌%◌,
+  ◌^◌,
+  Bool,
+  true,
+  false,
+  not,
+  ◌==◌,
+  nat_lt,
+  int_lt,
+  slice_index,
+  bit_and,
+  bit_or,
+  bit_xor,
+}
+use Rattle.std.specs.Int.{from_bool, int_shr}
 use mir.Val.{bits}
 use Rattle.bn_types.specs.Numbers.{int_width}
 use Rattle.bn_types.specs.declared.act.Act.{Act}
@@ -13,7 +34,29 @@ use Rattle.bn_types.specs.declared.csr_op.CsrOp.TheVariants.{Write, Set, Clear}
 use Rattle.bn_types.specs.declared.imm_op.ImmOp.{ImmOp}
 use Rattle.bn_types.specs.declared.imm_op.ImmOp.TheVariants as imm_op
 use Rattle.bn_types.specs.declared.insn.Insn.{Insn}
-use Rattle.bn_types.specs.declared.insn.Insn.TheVariants.{Lui, Auipc, Jal, Jalr, Branch, Load, Store, Imm, Shift, Reg2, AddiW, ShiftW, Reg2W, Fence, Csr, Ecall, Ebreak, Sret, Wfi, SfenceVma, Bastion}
+use Rattle.bn_types.specs.declared.insn.Insn.TheVariants.{
+  Lui,
+  Auipc,
+  Jal,
+  Jalr,
+  Branch,
+  Load,
+  Store,
+  Imm,
+  Shift,
+  Reg2,
+  AddiW,
+  ShiftW,
+  Reg2W,
+  Fence,
+  Csr,
+  Ecall,
+  Ebreak,
+  Sret,
+  Wfi,
+  SfenceVma,
+  Bastion,
+}
 use Rattle.bn_types.specs.declared.op.Op.{Op}
 use Rattle.bn_types.specs.declared.op.Op.TheVariants as op
 use Rattle.bn_types.specs.declared.reg.Reg.{Reg}
@@ -25,7 +68,9 @@ use Rattle.bn_types.specs.declared.test.Test.TheVariants.{Eq, Ne, Lt, Ge, Ltu, G
 use Rattle.bn_types.specs.declared.width.Width.{Width}
 use Rattle.bn_types.specs.declared.word_op.WordOp.{WordOp}
 use Rattle.bn_types.specs.declared.word_op.WordOp.TheVariants as word_op
-use Rattle.bn_model.specs.TwosComplement.{signed, signed_low, in_64_bits, sign_extended}
+use Rattle.bn_model.specs.Causes.{instruction_address_misaligned}
+use Rattle.bn_model.specs.State.{next_pc}
+use Rattle.bn_model.specs.TwosComplement.{in_64_bits, sign_extension, signed_of}
 
 -- what stands in a register; the machine keeps 0 in x0
 abbrev pub register : Regs → Reg → ℕ
@@ -44,29 +89,29 @@ abbrev pub plus_immediate : ℕ → ℤ → ℕ
 plus_immediate a imm = sum_64 a (in_64_bits imm)
 
 -- SLT and SLTU: 1 where a is below b
-abbrev pub is_less : ℕ → ℕ → ℕ
-is_less a b = from_bool (int_lt (signed a) (signed b))
+abbrev pub one_if_less : ℕ → ℕ → ℕ
+one_if_less a b = from_bool (int_lt (signed_of 64 a) (signed_of 64 b))
 
-abbrev pub is_less_unsigned : ℕ → ℕ → ℕ
-is_less_unsigned a b = from_bool (nat_lt a b)
+abbrev pub one_if_less_unsigned : ℕ → ℕ → ℕ
+one_if_less_unsigned a b = from_bool (nat_lt a b)
 
 -- SLLI, SRLI and SRAI
-abbrev pub shifted : ShiftOp → ℕ → ℕ → ℕ
-shifted Left a amount = (a * 2 ^ amount) % 2 ^ 64
-shifted Right a amount = a / 2 ^ amount
-shifted RightSigned a amount = in_64_bits (int_shr (signed a) amount)
+abbrev pub shift_value : ShiftOp → ℕ → ℕ → ℕ
+shift_value Left a amount = (a * 2 ^ amount) % 2 ^ 64
+shift_value Right a amount = a / 2 ^ amount
+shift_value RightSigned a amount = in_64_bits (int_shr (signed_of 64 a) amount)
 
--- SLLIW, SRLIW and SRAIW: shifts of the low 32 bits, whose result of 32 bits is extended by its sign
-abbrev pub word_shifted : ShiftOp → ℕ → ℕ → ℕ
-word_shifted Left a amount = sign_extended w32 (a * 2 ^ amount)
-word_shifted Right a amount = sign_extended w32 (a % 2 ^ 32 / 2 ^ amount)
-word_shifted RightSigned a amount = in_64_bits (int_shr (signed_low w32 a) amount)
+-- SLLIW, SRLIW and SRAIW: shifts of the low 32 bits; the result of 32 bits is extended by its sign
+abbrev pub word_shift_value : ShiftOp → ℕ → ℕ → ℕ
+word_shift_value Left a amount = sign_extension 32 (a * 2 ^ amount)
+word_shift_value Right a amount = sign_extension 32 (a % 2 ^ 32 / 2 ^ amount)
+word_shift_value RightSigned a amount = in_64_bits (int_shr (signed_of 32 (a % 2 ^ 32)) amount)
 
 -- ADDI, SLTI, SLTIU, XORI, ORI and ANDI; b is the immediate in 64 bits
 abbrev pub immediate_value : ImmOp → ℕ → ℕ → ℕ
 immediate_value imm_op.Add a b = sum_64 a b
-immediate_value imm_op.Slt a b = is_less a b
-immediate_value imm_op.Sltu a b = is_less_unsigned a b
+immediate_value imm_op.Slt a b = one_if_less a b
+immediate_value imm_op.Sltu a b = one_if_less_unsigned a b
 immediate_value imm_op.Xor a b = bit_xor a b
 immediate_value imm_op.Or a b = bit_or a b
 immediate_value imm_op.And a b = bit_and a b
@@ -75,37 +120,37 @@ immediate_value imm_op.And a b = bit_and a b
 abbrev pub register_value : Op → ℕ → ℕ → ℕ
 register_value op.Add a b = sum_64 a b
 register_value op.Sub a b = difference_64 a b
-register_value op.Sll a b = shifted Left a (b % 2 ^ 6)
-register_value op.Slt a b = is_less a b
-register_value op.Sltu a b = is_less_unsigned a b
+register_value op.Sll a b = shift_value Left a (b % 2 ^ 6)
+register_value op.Slt a b = one_if_less a b
+register_value op.Sltu a b = one_if_less_unsigned a b
 register_value op.Xor a b = bit_xor a b
-register_value op.Srl a b = shifted Right a (b % 2 ^ 6)
-register_value op.Sra a b = shifted RightSigned a (b % 2 ^ 6)
+register_value op.Srl a b = shift_value Right a (b % 2 ^ 6)
+register_value op.Sra a b = shift_value RightSigned a (b % 2 ^ 6)
 register_value op.Or a b = bit_or a b
 register_value op.And a b = bit_and a b
 
 -- ADDW, SUBW, SLLW, SRLW and SRAW; a shift's amount is the low 5 bits of the second
 abbrev pub word_value : WordOp → ℕ → ℕ → ℕ
-word_value word_op.Add a b = sign_extended w32 (sum_64 a b)
-word_value word_op.Sub a b = sign_extended w32 (difference_64 a b)
-word_value word_op.Sll a b = word_shifted Left a (b % 2 ^ 5)
-word_value word_op.Srl a b = word_shifted Right a (b % 2 ^ 5)
-word_value word_op.Sra a b = word_shifted RightSigned a (b % 2 ^ 5)
+word_value word_op.Add a b = sign_extension 32 (sum_64 a b)
+word_value word_op.Sub a b = sign_extension 32 (difference_64 a b)
+word_value word_op.Sll a b = word_shift_value Left a (b % 2 ^ 5)
+word_value word_op.Srl a b = word_shift_value Right a (b % 2 ^ 5)
+word_value word_op.Sra a b = word_shift_value RightSigned a (b % 2 ^ 5)
 
--- LB, LH, LW, LD (signed) and LBU, LHU, LWU: what a load sets, from the number that stands in memory
-abbrev pub extended : Width → Bool → ℕ → ℕ
-extended width true raw = sign_extended (int_width width) raw
-extended width false raw = raw % 2 ^ bits (int_width width)
+-- LB, LH, LW, LD (signed) and LBU, LHU, LWU: what a load sets, from the number that memory has
+abbrev pub load_value : Width → (signed : Bool) → (raw : ℕ) → ℕ
+load_value width true raw = sign_extension (bits (int_width width)) raw
+load_value width false raw = raw % 2 ^ bits (int_width width)
 
 -- ---- jumps and branches
 
-abbrev pub jump_if : Bool → ℕ → Reg → ℕ → Act
+abbrev pub jump_if : (is_aligned : Bool) → (target : ℕ) → (rd : Reg) → (link : ℕ) → Act
 jump_if true target rd link = act.Jump target rd link
-jump_if false target rd link = act.Trap (record { 0 = 0 }) target
+jump_if false target rd link = act.Trap instruction_address_misaligned target
 
--- a target that isn't a multiple of 4 is an instruction-address-misaligned exception, cause 0, on the jump
-abbrev pub jump : ℕ → Reg → ℕ → Act
-jump target rd pc = jump_if (target % 4 == 0) target rd (sum_64 pc 4)
+-- a target that isn't a multiple of 4 is a misaligned instruction address, on the jump
+abbrev pub jump : (target : ℕ) → (rd : Reg) → (pc : ℕ) → Act
+jump target rd pc = jump_if (target % 4 == 0) target rd (next_pc pc)
 
 -- JALR clears bit 0 of its target
 abbrev pub without_bit_0 : ℕ → ℕ
@@ -114,13 +159,13 @@ without_bit_0 n = n - n % 2
 abbrev pub holds : Test → ℕ → ℕ → Bool
 holds Eq a b = a == b
 holds Ne a b = not (a == b)
-holds Lt a b = int_lt (signed a) (signed b)
-holds Ge a b = not (int_lt (signed a) (signed b))
+holds Lt a b = int_lt (signed_of 64 a) (signed_of 64 b)
+holds Ge a b = not (int_lt (signed_of 64 a) (signed_of 64 b))
 holds Ltu a b = nat_lt a b
 holds Geu a b = not (nat_lt a b)
 
 -- a branch that isn't taken goes on; a taken one keeps its link in x0, which stays 0
-abbrev pub branch_if : Bool → ℕ → ℕ → Act
+abbrev pub branch_if : (is_taken : Bool) → (target pc : ℕ) → Act
 branch_if true target pc = jump target (record { 0 = 0 }) pc
 branch_if false target pc = act.Next
 
@@ -154,19 +199,25 @@ unfoldable pub act_of : Insn → Regs → ℕ → Act
 act_of (Lui rd imm) regs pc = act.Set rd (in_64_bits imm)
 act_of (Auipc rd imm) regs pc = act.Set rd (plus_immediate pc imm)
 act_of (Jal rd offset) regs pc = jump (plus_immediate pc offset) rd pc
-act_of (Jalr rd base offset) regs pc = jump (without_bit_0 (plus_immediate (register regs base) offset)) rd pc
+act_of (Jalr rd base offset) regs pc =
+    jump (without_bit_0 (plus_immediate (register regs base) offset)) rd pc
 act_of (Branch test left right offset) regs pc =
     branch_if (holds test (register regs left) (register regs right)) (plus_immediate pc offset) pc
 act_of (Load width signed rd base offset) regs pc =
     act.LoadAt (plus_immediate (register regs base) offset) width signed rd
 act_of (Store width base value offset) regs pc =
     act.StoreAt (plus_immediate (register regs base) offset) width (register regs value)
-act_of (Imm op rd left imm) regs pc = act.Set rd (immediate_value op (register regs left) (in_64_bits imm))
-act_of (Shift op rd left amount) regs pc = act.Set rd (shifted op (register regs left) amount)
-act_of (Reg2 op rd left right) regs pc = act.Set rd (register_value op (register regs left) (register regs right))
-act_of (AddiW rd left imm) regs pc = act.Set rd (sign_extended w32 (plus_immediate (register regs left) imm))
-act_of (ShiftW op rd left amount) regs pc = act.Set rd (word_shifted op (register regs left) amount)
-act_of (Reg2W op rd left right) regs pc = act.Set rd (word_value op (register regs left) (register regs right))
+act_of (Imm op rd left imm) regs pc =
+    act.Set rd (immediate_value op (register regs left) (in_64_bits imm))
+act_of (Shift op rd left amount) regs pc = act.Set rd (shift_value op (register regs left) amount)
+act_of (Reg2 op rd left right) regs pc =
+    act.Set rd (register_value op (register regs left) (register regs right))
+act_of (AddiW rd left imm) regs pc =
+    act.Set rd (sign_extension 32 (plus_immediate (register regs left) imm))
+act_of (ShiftW op rd left amount) regs pc =
+    act.Set rd (word_shift_value op (register regs left) amount)
+act_of (Reg2W op rd left right) regs pc =
+    act.Set rd (word_value op (register regs left) (register regs right))
 act_of (Fence high rs1 rd) regs pc = act.Next
 act_of (Csr op number from rd) regs pc =
     act.Csr op number (operand from regs) (reads op rd) (writes op from) rd

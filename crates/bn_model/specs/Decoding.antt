@@ -1,5 +1,6 @@
--- The instruction of a word, opcode by opcode (Unprivileged ISA, "RV32/64G Instruction Set Listings";
--- Privileged ISA, "RISC-V Privileged Instruction Set Listings"; opcode custom-0 is this machine's own).
+-- The table in `Encoding` is the definition of what a word means, and this file need not be read:
+-- it computes the instruction of a word, opcode by opcode, as a decoder does, and is proved to give
+-- it exactly where the table relates the two (`FollowsTable` of `TableLaws`).
 use Rattle.std.specs.Prelude.{ℕ, Bool, true, false, ◌==◌, ◌&&◌, if◌then◌else◌, Option, Some, None}
 use Rattle.bn_types.specs.declared.csr_from.CsrFrom.TheVariants.{Register, Number}
 use Rattle.bn_types.specs.declared.csr_op.CsrOp.{CsrOp}
@@ -21,7 +22,23 @@ use Rattle.bn_types.specs.declared.width.Width.{Width}
 use Rattle.bn_types.specs.declared.width.Width.TheVariants.{B1, B2, B4, B8}
 use Rattle.bn_types.specs.declared.word_op.WordOp.{WordOp}
 use Rattle.bn_types.specs.declared.word_op.WordOp.TheVariants as word_op
-use Rattle.bn_model.specs.Fields.{opcode, rd, funct3, rs1, rs2, funct7, funct6, shamt6, shamt5, funct12, i_immediate, s_immediate, b_immediate, u_immediate, j_immediate}
+use Rattle.bn_model.specs.Fields.{
+  opcode,
+  rd,
+  funct3,
+  rs1,
+  rs2,
+  funct7,
+  funct6,
+  shamt6,
+  shamt5,
+  funct12,
+  i_immediate,
+  s_immediate,
+  b_immediate,
+  u_immediate,
+  j_immediate,
+}
 
 -- the register is x0
 abbrev pub is_x0 : Reg → Bool

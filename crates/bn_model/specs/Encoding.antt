@@ -1,23 +1,55 @@
--- The instruction table, as a relation between a word and an instruction: one line for each line of the
--- listings (Unprivileged ISA, "RV32/64G Instruction Set Listings"; Privileged ISA, "RISC-V Privileged
--- Instruction Set Listings"), then the secure instructions of opcode custom-0.
+-- The instruction table, as a relation between a word and an instruction: one line for each line of
+-- the listings (Unprivileged ISA, "RV32/64G Instruction Set Listings"; Privileged ISA, "RISC-V
+-- Privileged Instruction Set Listings"), then the secure instructions of opcode custom-0.
 use Rattle.std.specs.Prelude.{◌≡◌, ℕ, ℤ, true, false}
 use Rattle.bn_types.specs.declared.csr_from.CsrFrom.TheVariants.{Register, Number}
 use Rattle.bn_types.specs.declared.csr_op.CsrOp.TheVariants as csr_op
 use Rattle.bn_types.specs.declared.imm_op.ImmOp.TheVariants as imm_op
 use Rattle.bn_types.specs.declared.insn.Insn.{Insn}
-use Rattle.bn_types.specs.declared.insn.Insn.TheVariants.{Lui, Auipc, Jal, Jalr, Branch, Load, Store, Imm, Shift, Reg2, AddiW, ShiftW, Reg2W, Fence, Csr, Ecall, Ebreak, Sret, Wfi, SfenceVma, Bastion}
+use Rattle.bn_types.specs.declared.insn.Insn.TheVariants.{
+  Lui,
+  Auipc,
+  Jal,
+  Jalr,
+  Branch,
+  Load,
+  Store,
+  Imm,
+  Shift,
+  Reg2,
+  AddiW,
+  ShiftW,
+  Reg2W,
+  Fence,
+  Csr,
+  Ecall,
+  Ebreak,
+  Sret,
+  Wfi,
+  SfenceVma,
+  Bastion,
+}
 use Rattle.bn_types.specs.declared.op.Op.TheVariants as op
 use Rattle.bn_types.specs.declared.reg.Reg.{Reg}
-use Rattle.bn_types.specs.declared.secure.Secure.TheVariants.{Launch, Call, Ret, Evict, Ident, Caller, Offerer, Sget, Sset}
+use Rattle.bn_types.specs.declared.secure.Secure.TheVariants.{
+  Launch,
+  Call,
+  Ret,
+  Evict,
+  Ident,
+  Caller,
+  Offerer,
+  Sget,
+  Sset,
+}
 use Rattle.bn_types.specs.declared.shift_op.ShiftOp.TheVariants.{Left, Right, RightSigned}
 use Rattle.bn_types.specs.declared.test.Test.TheVariants.{Eq, Ne, Lt, Ge, Ltu, Geu}
 use Rattle.bn_types.specs.declared.width.Width.TheVariants.{B1, B2, B4, B8}
 use Rattle.bn_types.specs.declared.word_op.WordOp.TheVariants as word_op
 use Rattle.bn_model.specs.Fields as field
 
--- A word w of each format: its opcode o, its function fields f and g, its registers d, a and b, and its
--- immediate or number n.
+-- A word w of each format: its opcode o, its function fields f and g, its registers d, a and b, and
+-- its immediate or number n.
 pub record FormatR (w o f g : ℕ) (d a b : Reg) : Type 0 where
   pub opcode : field.opcode w ≡ o
   pub funct3 : field.funct3 w ≡ f
@@ -139,7 +171,8 @@ Encodes w (Reg2 op.And rd left right) = FormatR w 0b0110011 0b111 0b0000000 rd l
 Encodes w (AddiW rd left imm) = FormatI w 0b0011011 0b000 rd left imm
 Encodes w (ShiftW Left rd left amount) = FormatShiftW w 0b0011011 0b001 0b0000000 rd left amount
 Encodes w (ShiftW Right rd left amount) = FormatShiftW w 0b0011011 0b101 0b0000000 rd left amount
-Encodes w (ShiftW RightSigned rd left amount) = FormatShiftW w 0b0011011 0b101 0b0100000 rd left amount
+Encodes w (ShiftW RightSigned rd left amount) =
+    FormatShiftW w 0b0011011 0b101 0b0100000 rd left amount
 -- ADDW, SUBW, SLLW, SRLW, SRAW
 Encodes w (Reg2W word_op.Add rd left right) = FormatR w 0b0111011 0b000 0b0000000 rd left right
 Encodes w (Reg2W word_op.Sub rd left right) = FormatR w 0b0111011 0b000 0b0100000 rd left right

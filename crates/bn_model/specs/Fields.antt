@@ -1,7 +1,8 @@
 -- The fields of an instruction word and its five immediates (Unprivileged ISA, "Base Instruction
 -- Formats" and "Immediate Encoding Variants").
-use Rattle.std.specs.Prelude.{ℕ, ◌+◌, ◌-◌, ◌*◌, ◌/◌, ◌%◌, ◌^◌, ℤ, pos, ◌-ℤ◌, nat_lt, if◌then◌else◌}
+use Rattle.std.specs.Prelude.{ℕ, ◌+◌, ◌-◌, ◌*◌, ◌/◌, ◌%◌, ◌^◌, ℤ}
 use Rattle.bn_types.specs.declared.reg.Reg.{Reg}
+use Rattle.bn_model.specs.TwosComplement.{signed_of}
 
 -- bits high to low of a word, as a number
 abbrev pub bits : ℕ → ℕ → ℕ → ℕ
@@ -10,10 +11,6 @@ bits high low word = word / 2 ^ low % 2 ^ (high - low + 1)
 -- the register whose number stands in the five bits from low on
 abbrev pub register : ℕ → ℕ → Reg
 register low word = record { 0 = bits (low + 4) low word }
-
--- a number of that many bits, read as a two's complement
-abbrev pub signed : ℕ → ℕ → ℤ
-signed count n = if nat_lt n (2 ^ (count - 1)) then pos n else pos n -ℤ pos (2 ^ count)
 
 unfoldable pub opcode : ℕ → ℕ
 opcode word = bits 6 0 word
@@ -33,7 +30,8 @@ rs2 word = register 20 word
 unfoldable pub funct7 : ℕ → ℕ
 funct7 word = bits 31 25 word
 
--- bits 31:26, which tell the shifts of 64 bits apart (RV64I, "Integer Register-Immediate Instructions")
+-- bits 31:26, which tell the shifts of 64 bits apart (RV64I, "Integer Register-Immediate
+-- Instructions")
 unfoldable pub funct6 : ℕ → ℕ
 funct6 word = bits 31 26 word
 
@@ -50,16 +48,16 @@ funct12 word = bits 31 20 word
 
 -- imm[11:0]
 unfoldable pub i_immediate : ℕ → ℤ
-i_immediate word = signed 12 (bits 31 20 word)
+i_immediate word = signed_of 12 (bits 31 20 word)
 
 -- imm[11:5], imm[4:0]
 unfoldable pub s_immediate : ℕ → ℤ
-s_immediate word = signed 12 (bits 31 25 word * 2 ^ 5 + bits 11 7 word)
+s_immediate word = signed_of 12 (bits 31 25 word * 2 ^ 5 + bits 11 7 word)
 
 -- imm[12], imm[11], imm[10:5], imm[4:1], where imm[0] is 0
 unfoldable pub b_immediate : ℕ → ℤ
 b_immediate word =
-    signed 13
+    signed_of 13
     (bits 31 31 word * 2 ^ 12 +
     bits 7 7 word * 2 ^ 11 +
     bits 30 25 word * 2 ^ 5 +
@@ -67,12 +65,12 @@ b_immediate word =
 
 -- imm[31:12], where imm[11:0] are 0
 unfoldable pub u_immediate : ℕ → ℤ
-u_immediate word = signed 32 (bits 31 12 word * 2 ^ 12)
+u_immediate word = signed_of 32 (bits 31 12 word * 2 ^ 12)
 
 -- imm[20], imm[19:12], imm[11], imm[10:1], where imm[0] is 0
 unfoldable pub j_immediate : ℕ → ℤ
 j_immediate word =
-    signed 21
+    signed_of 21
     (bits 31 31 word * 2 ^ 20 +
     bits 19 12 word * 2 ^ 12 +
     bits 20 20 word * 2 ^ 11 +

@@ -1,5 +1,20 @@
 -- The ranges of an instruction's fields.
-use Rattle.std.specs.Prelude.{◌≡◌, ℕ, ◌-◌, ◌%◌, ◌^◌, ◌<◌, Bool, true, ℤ, pos, neg_ℤ, ◌≤ℤ◌, ◌<ℤ◌, unsigned_abs}
+use Rattle.std.specs.Prelude.{
+  ◌≡◌,
+  ℕ,
+  ◌-◌,
+  ◌%◌,
+  ◌^◌,
+  ◌<◌,
+  Bool,
+  true,
+  ℤ,
+  pos,
+  neg_ℤ,
+  ◌≤ℤ◌,
+  ◌<ℤ◌,
+  unsigned_abs,
+}
 use Rattle.bn_types.specs.declared.act.Act.{Act}
 use Rattle.bn_types.specs.declared.act.Act.TheVariants as act
 use Rattle.bn_types.specs.declared.csr_from.CsrFrom.{CsrFrom}

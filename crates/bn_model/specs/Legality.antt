@@ -1,35 +1,31 @@
--- Which instructions a mode of the untrusted world may execute.
-use Rattle.std.specs.Prelude.{Bool, true, false}
+-- Which instructions may be executed where: in the untrusted world, module 0, or in a module, and
+-- in which mode.
+use Rattle.std.specs.Prelude.{ℕ, zero, suc}
 use Rattle.bn_types.specs.declared.mode.Mode.{Mode}
 use Rattle.bn_types.specs.declared.mode.Mode.TheVariants.{U, S}
-use Rattle.bn_types.specs.declared.secure.Secure.{Secure}
-use Rattle.bn_types.specs.declared.secure.Secure.TheVariants as secure
-use Rattle.bn_model.specs.Causes.{illegal}
-use Rattle.bn_model.specs.Decision.{Decision, Unbuilt}
+use Rattle.bn_model.specs.Causes.{illegal_instruction}
+use Rattle.bn_model.specs.Decision.{Decision, Trap}
 
-abbrev pub is_supervisor : Mode → Bool
-is_supervisor U = false
-is_supervisor S = true
+-- an illegal instruction has 0 for `stval`
+abbrev pub illegal : Decision
+illegal = Trap illegal_instruction 0
 
 -- SRET, WFI and SFENCE.VMA are illegal in mode U (Privileged ISA, "Supervisor Instructions")
 abbrev pub supervisor_only : Mode → Decision → Decision
 supervisor_only U decision = illegal
 supervisor_only S decision = decision
 
--- of the secure instructions, modules are launched and evicted by mode S, called and identified from
--- everywhere, and the rest is for modules alone
-abbrev pub is_legal : Secure → Mode → Bool
-is_legal (secure.Launch rd at) mode = is_supervisor mode
-is_legal (secure.Call rd id entry) mode = true
-is_legal secure.Ret mode = false
-is_legal (secure.Evict rd id) mode = is_supervisor mode
-is_legal (secure.Ident rd id word) mode = true
-is_legal (secure.Caller rd) mode = false
-is_legal (secure.Offerer rd at) mode = false
-is_legal (secure.Sget rd index) mode = false
-is_legal (secure.Sset rd index value) mode = false
+-- instructions of opcode SYSTEM are illegal in a module
+abbrev pub outside_only : (current : ℕ) → Decision → Decision
+outside_only zero decision = decision
+outside_only (suc m) decision = illegal
 
--- no secure instruction is built yet
-abbrev pub secure_if_legal : Bool → Decision
-secure_if_legal false = illegal
-secure_if_legal true = Unbuilt
+-- what a module alone may ask for
+abbrev pub inside_only : (current : ℕ) → Decision → Decision
+inside_only zero decision = illegal
+inside_only (suc m) decision = decision
+
+-- modules are launched and evicted by mode S of the untrusted world
+abbrev pub kernel_only : (current : ℕ) → Mode → Decision → Decision
+kernel_only zero mode decision = supervisor_only mode decision
+kernel_only (suc m) mode decision = illegal

@@ -1,12 +1,14 @@
--- What the bytes of an image file come to (this project's own rules; System V ABI, "ELF Identification").
+-- What the bytes of an image file come to (this project's own rules; System V ABI, "ELF
+-- Identification").
 use Rattle.std.specs.Prelude.{ℕ, ◌-◌, ◌==◌, Bool, true, false, nat_eq, nat_lt, List, [], ◌∷◌, ◌++◌, length, replicate}
 use Rattle.std.specs.List.{starts_with}
 use Rattle.bn_types.specs.declared.image_fault.ImageFault.{ImageFault}
 use Rattle.bn_types.specs.declared.image_sort.ImageSort.TheVariants.{Empty, Long}
+use Rattle.bn_model.specs.Opening.{Image}
 
--- an image is the bytes of RAM, or faulty, or of a kind that isn't built yet
+-- an image is what it leaves in RAM with its entry, or faulty, or of a kind that isn't built yet
 pub data Load : Type 0 where
-  Ram : List ℕ → Load
+  Ram : Image → Load
   Faulty : ImageFault → Load
   Unbuilt : Load
 
@@ -14,10 +16,15 @@ pub data Load : Type 0 where
 abbrev pub elf_magic : List ℕ
 elf_magic = 0x7f ∷ 0x45 ∷ 0x4c ∷ 0x46 ∷ []
 
+-- where a raw image is entered: at the beginning of RAM
+unfoldable pub raw_entry : ℕ
+raw_entry = 0x80000000
+
 -- a raw image stands at the beginning of RAM, and the rest is zeros
 abbrev pub load_raw_if : (is_long : Bool) → ℕ → List ℕ → Load
 load_raw_if true size file = Faulty (record { sort = Long; at = size })
-load_raw_if false size file = Ram (file ++ replicate (size - length file) 0)
+load_raw_if false size file =
+    Ram (record { bytes = file ++ replicate (size - length file) 0; entry = raw_entry })
 
 -- ELF files aren't built yet
 abbrev pub load_if_elf : Bool → ℕ → List ℕ → Load

@@ -1,8 +1,9 @@
--- The nested page tables, which lead each page of the guest to a machine frame (Privileged ISA, hypervisor
--- extension, "Guest Physical Address Translation", Sv39x4). The tables lie in frames of the machine.
-use Rattle.std.specs.Prelude.{◌≡◌, ℕ, ◌+◌, ◌*◌, ◌/◌, ◌%◌, ◌^◌, ◌<◌, ◌≤◌, Bool, true, false, nat_lt, nat_eq, List, Option, Some, None, map, length, slice_set}
+-- The nested page tables, which lead each page of the guest to a machine frame (Privileged ISA,
+-- hypervisor extension, "Guest Physical Address Translation", Sv39x4). The tables lie in frames of
+-- the machine.
+use Rattle.std.specs.Prelude.{◌≡◌, ℕ, ◌+◌, ◌*◌, ◌/◌, ◌%◌, ◌^◌, ◌<◌, ◌≤◌, Bool, true, false, nat_lt, nat_eq, List, Option, Some, None, map, length}
 use Rattle.std.specs.List.{range_with_len}
-use Rattle.bn_types.specs.Numbers.{number_at, page_at, with_number, zero_page}
+use Rattle.bn_types.specs.Numbers.{number_at, page_at, zero_page}
 use Rattle.bn_types.specs.declared.frame.Frame.{Frame}
 use Rattle.bn_types.specs.declared.width.Width.TheVariants.{B8}
 
@@ -15,11 +16,6 @@ pub record Nested : Type 0 where
 -- an entry of a table has 8 bytes ("Sv39: Page-Based 39-bit Virtual-Memory System", PTESIZE)
 unfoldable pub entry_at : List (List ℕ) → ℕ → ℕ → ℕ
 entry_at frames table index = number_at B8 (page_at frames table) (8 * index)
-
--- the frames after an entry is written
-abbrev pub with_entry : List (List ℕ) → ℕ → ℕ → ℕ → List (List ℕ)
-with_entry frames table index entry =
-    slice_set frames table (with_number B8 (page_at frames table) (8 * index) entry)
 
 -- a pointer to the next table: V in bit 0 alone, and the frame's number as PPN in bits 53:10
 abbrev pub pointer_to : ℕ → ℕ
@@ -47,8 +43,8 @@ low_tables ram = (ram + 511) / 512
 abbrev pub table_frames : ℕ → ℕ
 table_frames ram = 5 + low_tables ram
 
--- The root of Sv39x4 has 2,048 entries, of 1 GiB each, in frames 0 to 3. RAM begins at 0x80000000, which
--- is entry 2, and ends below entry 3. Entry 2 leads to the middle table, in frame 4.
+-- The root of Sv39x4 has 2,048 entries, of 1 GiB each, in frames 0 to 3. RAM begins at 0x80000000,
+-- which is entry 2, and ends below entry 3. Entry 2 leads to the middle table, in frame 4.
 abbrev pub root_when : Bool → ℕ
 root_when true = pointer_to 4
 root_when false = 0
@@ -64,14 +60,10 @@ middle_when false index = 0
 abbrev pub middle_entry : ℕ → ℕ → ℕ
 middle_entry ram index = middle_when (nat_lt index (low_tables ram)) index
 
--- What the entry of a page in the low tables says. RAM begins at a multiple of 1 GiB, so that the page's
--- number is the entry's.
+-- What the entry of a page in the low tables says. RAM begins at a multiple of 1 GiB, so that the
+-- page's number is the entry's.
 abbrev pub low_entry : List (List ℕ) → ℕ → ℕ
 low_entry frames page = entry_at frames (5 + page / 512) (page % 512)
-
--- the frames after the entry of a page leads to a frame
-abbrev pub led : List (List ℕ) → ℕ → Frame → List (List ℕ)
-led frames page frame = with_entry frames (5 + page / 512) (page % 512) (leaf_to (Some frame))
 
 -- a page outside RAM has no frame
 abbrev pub place_when : Bool → List (List ℕ) → ℕ → Option Frame
@@ -89,14 +81,16 @@ place n page = placed_in n.ram n.frames page
 pub record IsTree (n : Nested) : Type 0 where
   pub root : (i : ℕ) → i < 2048 → entry_at n.frames (i / 512) (i % 512) ≡ root_entry i
   pub middle : (i : ℕ) → i < 512 → entry_at n.frames 4 i ≡ middle_entry n.ram i
-  pub low : (page : ℕ) → page < 512 * low_tables n.ram → low_entry n.frames page ≡ leaf_to (place n page)
+  pub low : (page : ℕ) → page < 512 * low_tables n.ram → low_entry n.frames page ≡ leaf_to
+      (place n page)
 
 -- the tree is there, no page lies on a table's frame, and no two pages on one frame
 pub record IsNested (n : Nested) : Type 0 where
   pub tree : IsTree n
   pub apart : (page : ℕ) (frame : Frame) → place n page ≡ Some frame → table_frames n.ram ≤ frame.0
   pub inside : (page : ℕ) (frame : Frame) → place n page ≡ Some frame → frame.0 < length n.frames
-  pub alone : (page other : ℕ) (frame : Frame) → place n page ≡ Some frame → place n other ≡ Some frame → page ≡ other
+  pub alone : (page other : ℕ) (frame : Frame) → place n page ≡ Some frame → place n other ≡ Some
+      frame → page ≡ other
 
 -- a frame is free where it is no table's and no page lies on it
 pub record IsFree (n : Nested) (frame : Frame) : Type 0 where
@@ -122,7 +116,8 @@ page_in frames None = zero_page
 page_in frames (Some frame) = page_at frames frame.0
 
 unfoldable pub contents_in : ℕ → List (List ℕ) → List (List ℕ)
-contents_in ram frames = map (λ page. page_in frames (placed_in ram frames page)) (range_with_len 0 ram)
+contents_in ram frames = map (λ page. page_in frames (placed_in ram frames page))
+    (range_with_len 0 ram)
 
 -- the guest's RAM, page by page
 abbrev pub contents : Nested → List (List ℕ)

@@ -1,6 +1,5 @@
 -- What the program does: its status and the text that it writes, from its words and the files.
-use Rattle.std.specs.Prelude.{ℕ, ◌*◌, List, ◌++◌, codes, decimal, Option, Some, None}
-use Rattle.std.specs.List.{concat}
+use Rattle.std.specs.Prelude.{ℕ, ◌*◌, List, [], ◌++◌, codes, decimal, flat_map, Option, Some, None}
 use Rattle.sha2.specs.Sha256.{sha256}
 use Rattle.bn_types.specs.declared.digest.Digest.{Digest}
 use Rattle.bn_types.specs.declared.ending.Ending.{Ending}
@@ -17,7 +16,8 @@ use Rattle.bn_model.specs.Loading.{Load, Ram, Faulty, Unbuilt, load_of}
 use Rattle.bn_model.specs.Opening.{opening}
 use Rattle.bn_model.specs.Running.{Course, course, turns}
 use Rattle.bn_model.specs.Spelling.{spelling, text_of}
-use Rattle.bn_model.specs.State.{State}
+use Rattle.bn_model.specs.Memory.{visible}
+use Rattle.bn_model.specs.State.{State, memory}
 use Rattle.bn_model.specs.Words.{RunOrder, order_of}
 
 pub record Report : Type 0 where
@@ -30,9 +30,13 @@ Files = List ℕ → Option (List ℕ)
 
 -- ---- the run
 
+abbrev pub bytes_if_free : Option (List ℕ) → List ℕ
+bytes_if_free None = []
+bytes_if_free (Some bytes) = bytes
+
 -- the digest of all pages that no module owns, in ascending order (SHA-256, FIPS 180-4)
 unfoldable pub public_digest : State → Digest
-public_digest s = record { 0 = sha256 (concat s.pages) }
+public_digest s = record { 0 = sha256 (flat_map bytes_if_free (visible (memory s))) }
 
 abbrev pub end_line : State → Finish → List ℕ
 end_line s finish = spelling (End s.clock finish (public_digest s))
@@ -47,7 +51,8 @@ closing ending.Limit s = record { status = status.Limit; text = end_line s Limit
 closing ending.Unbuilt s = unbuilt
 
 abbrev pub report_of_course : Course → Report
-report_of_course c = let last = closing c.ending c.last in record last { text = text_of c.told ++ last.text }
+report_of_course c = let last = closing c.ending c.last in record last
+    { text = text_of c.told ++ last.text }
 
 -- ---- the whole
 
@@ -55,31 +60,40 @@ report_of_course c = let last = closing c.ending c.last in record last { text = 
 unfoldable pub most_image_bytes : ℕ
 most_image_bytes = 33554432
 
--- where a raw image is entered: at the beginning of RAM
-unfoldable pub raw_entry : ℕ
-raw_entry = 0x80000000
-
 abbrev pub sort_word : ImageSort → List ℕ
 sort_word image_sort.Long = codes "long"
 sort_word image_sort.Empty = codes "empty"
+sort_word image_sort.Short = codes "short"
+sort_word image_sort.Class = codes "class"
+sort_word image_sort.Order = codes "order"
+sort_word image_sort.Kind = codes "kind"
+sort_word image_sort.Machine = codes "machine"
+sort_word image_sort.Headers = codes "headers"
+sort_word image_sort.Sizes = codes "sizes"
+sort_word image_sort.Bytes = codes "bytes"
+sort_word image_sort.Range = codes "range"
+sort_word image_sort.Nothing = codes "none"
+sort_word image_sort.Entry = codes "entry"
 
 -- the line of a faulty image: what is wrong, and where
 unfoldable pub fault_line : ImageFault → List ℕ
-fault_line fault = codes "image " ++ sort_word fault.sort ++ codes " " ++ decimal fault.at ++ codes "\n"
+fault_line fault = codes "image " ++ sort_word fault.sort ++ codes " " ++ decimal fault.at ++ codes
+    "\n"
 
 -- the run of an order, once its image is loaded
 abbrev pub report_of_load : Load → RunOrder → Report
 report_of_load Unbuilt order = unbuilt
 report_of_load (Faulty fault) order = record { status = status.Image; text = fault_line fault }
-report_of_load (Ram bytes) order =
-    report_of_course (course (opening order.ram_pages 1 bytes raw_entry) (turns order.steps))
+report_of_load (Ram image) order =
+    report_of_course (course None (opening order.ram_pages 1 image []) (turns order.steps))
 
 abbrev pub missing : Report
 missing = record { status = status.NoFile; text = codes "missing image\n" }
 
 abbrev pub report_of_file : Option (List ℕ) → RunOrder → Report
 report_of_file None order = missing
-report_of_file (Some file) order = report_of_load (load_of most_image_bytes (4096 * order.ram_pages) file) order
+report_of_file (Some file) order = report_of_load
+    (load_of most_image_bytes (4096 * order.ram_pages) file) order
 
 abbrev pub report_of_order : Option RunOrder → Files → Report
 report_of_order None files = unbuilt

@@ -1,14 +1,48 @@
--- A run of the flat machine: its events in order, up to the first that shuts the machine down and up to
--- before the first that isn't built.
-use Rattle.std.specs.Prelude.{◌≡◌, ◌≢◌, ℕ, zero, suc, ◌+◌, ◌<◌, Bool, true, false, List, [], ◌∷◌, ◌++◌}
+-- A run of the flat machine: its events in order, up to the first that shuts the machine down and
+-- up to before the first that isn't built.
+use Rattle.std.specs.Prelude.{◌≡◌, ◌≢◌, ℕ, zero, suc, ◌==◌, ◌⊎◌, Bool, true, false, List, [], ◌∷◌, ◌++◌, Option, Some, None}
 use Rattle.bn_types.specs.declared.ending.Ending.{Ending}
 use Rattle.bn_types.specs.declared.ending.Ending.TheVariants.{Shutdown, Limit, Unbuilt}
 use Rattle.bn_types.specs.declared.event.Event.{Event}
 use Rattle.bn_types.specs.declared.event.Event.TheVariants.{Turn}
 use Rattle.bn_types.specs.declared.line.Line.{Line}
+use Rattle.bn_types.specs.declared.mod_id.ModId.{ModId}
+use Rattle.bn_model.specs.Blanking.{blank}
 use Rattle.bn_model.specs.Spelling.{text_of}
 use Rattle.bn_model.specs.State.{State}
 use Rattle.bn_model.specs.Stepping.{step, lines, is_built_event}
+
+-- ---- blinding
+
+-- just before the event of this number a module's secrets are zeroed, where it rests
+pub record Blind : Type 0 where
+  pub blinded : ModId
+  pub event : ℕ
+
+abbrev pub blank_when : Bool → ℕ → State → State
+blank_when true m s = blank m s
+blank_when false m s = s
+
+-- the state in which the next event of a run is made
+abbrev pub state_before : Option Blind → State → State
+state_before None s = s
+state_before (Some blind) s = blank_when (s.clock == blind.event) blind.blinded.0 s
+
+-- ---- some events, whatever they do
+
+-- the lines of some events, and the state that they left
+pub record Run : Type 0 where
+  pub told : List Line
+  pub last : State
+
+unfoldable pub run : Option Blind → State → List Event → Run
+run blind s [] = record { told = []; last = s }
+run blind s (event ∷ events) =
+    let before = state_before blind s in
+    let rest = run blind (step before event) events in
+    record rest { told = lines before event ++ rest.told }
+
+-- ---- a whole course
 
 -- the lines of a run, why it stopped, and the state that it left
 pub record Course : Type 0 where
@@ -16,45 +50,57 @@ pub record Course : Type 0 where
   pub ending : Ending
   pub last : State
 
--- one event and the run of the others: whether the event is built, the state before it, its lines, and the
--- state after it
-abbrev pub onward : Bool → State → List Line → State → Course → Course
-onward false before told after rest = record { told = []; ending = Unbuilt; last = before }
-onward true before told after rest = record rest { told = told ++ rest.told }
+-- one event and the run of the others: whether the event is built, the state before it, its lines,
+-- and the state after it
+abbrev pub onward : Bool → State → List Line → Course → Course
+onward false before told rest = record { told = []; ending = Unbuilt; last = before }
+onward true before told rest = record rest { told = told ++ rest.told }
 
 -- a run that is off makes no events
 abbrev pub unless_off : Bool → State → Course → Course
 unless_off true s rest = record { told = []; ending = Shutdown; last = s }
 unless_off false s rest = rest
 
-unfoldable pub course : State → List Event → Course
-course s [] = unless_off s.off s (record { told = []; ending = Limit; last = s })
-course s (e ∷ es) =
-    unless_off s.off s (onward (is_built_event s e) s (lines s e) (step s e) (course (step s e) es))
+unfoldable pub course : Option Blind → State → List Event → Course
+course blind s [] = unless_off s.off s (record { told = []; ending = Limit; last = s })
+course blind s (event ∷ events) =
+    let before = state_before blind s in
+    unless_off s.off s
+    (onward (is_built_event before event) before (lines before event)
+    (course blind (step before event) events))
 
 -- the first n events of a run without a script: turns of hart 0
 unfoldable pub turns : ℕ → List Event
 turns zero = []
 turns (suc n) = Turn 0 ∷ turns n
 
--- the state after n turns of hart 0
-unfoldable pub state_after : ℕ → State → State
-state_after zero s = s
-state_after (suc n) s = step (state_after n s) (Turn 0)
+-- ---- where a run comes
 
--- the text of the lines of the first n turns of hart 0
-unfoldable pub text_after : ℕ → State → List ℕ
-text_after zero s = []
-text_after (suc n) s = text_after n s ++ text_of (lines (state_after n s) (Turn 0))
+-- the event is the next of a run, which makes it in this state
+pub record IsNext (blind : Option Blind) (s : State) (next : Event) (before : State)
+    (event : Event) : Type 0 where
+  pub is : event ≡ next
+  pub stands : before ≡ state_before blind s
 
--- A run that stops before its limit, since the lines of an event couldn't all be written: it made that
--- event, wrote the lines of all events before it, and of its own a proper front.
-pub record StopsWithin (start stopped : State) (limit : ℕ) (text : List ℕ) : Type 0 where
-  pub before : ℕ
-  pub below : before < limit
-  pub stands : stopped ≡ state_after (before + 1) start
+-- a run of some events makes this event, in this state
+unfoldable pub Reaches : Option Blind → State → List Event → State → Event → Type 0
+Reaches blind s [] before event = ⊥
+Reaches blind s (next ∷ events) before event =
+    (s.off ≡ false) ×
+    (IsNext blind s next before event ⊎ Reaches blind (step (state_before blind s) next) events
+    before event)
+
+-- A run that stops before its end, since the lines of an event couldn't all be written: it made
+-- that event, wrote the lines of all events before it, and of its own a proper front.
+pub record StopsWithin (blind : Option Blind) (start stopped : State) (events : List Event)
+    (text : List ℕ) : Type 0 where
+  pub made : List Event
+  pub event : Event
+  pub others : List Event
+  pub split : events ≡ made ++ event ∷ others
+  pub stands : stopped ≡ (run blind start (made ++ event ∷ [])).last
   pub front : List ℕ
   pub rest : List ℕ
-  pub split : front ++ rest ≡ text_of (lines (state_after before start) (Turn 0))
+  pub due : front ++ rest ≡ text_of (lines (state_before blind (run blind start made).last) event)
   pub proper : rest ≢ []
-  pub whole : text ≡ text_after before start ++ front
+  pub whole : text ≡ text_of (run blind start made).told ++ front

@@ -1,8 +1,30 @@
--- Traps and interrupts of a hart (Privileged ISA, "Supervisor CSRs" and "Trap-Return Instructions").
-use Rattle.std.specs.Prelude.{ℕ, ◌+◌, ◌*◌, ◌/◌, ◌%◌, ◌^◌, Bool, true, false, ◌==◌, ◌&&◌, Option, Some, None}
+-- Traps and interrupts of a hart (Privileged ISA, "Supervisor CSRs" and "Trap-Return
+-- Instructions").
+use Rattle.std.specs.Prelude.{
+  ℕ,
+  ◌+◌,
+  ◌*◌,
+  ◌/◌,
+  ◌%◌,
+  ◌^◌,
+  Bool,
+  true,
+  false,
+  ◌==◌,
+  ◌&&◌,
+  Option,
+  Some,
+  None,
+}
 use Rattle.bn_types.specs.declared.cause.Cause.{Cause}
 use Rattle.bn_types.specs.declared.mode.Mode.{Mode}
 use Rattle.bn_types.specs.declared.mode.Mode.TheVariants.{U, S}
+use Rattle.bn_model.specs.declared.wires.Wires.{Wires}
+use Rattle.bn_model.specs.Causes.{
+  supervisor_external_interrupt,
+  supervisor_software_interrupt,
+  supervisor_timer_interrupt,
+}
 use Rattle.bn_model.specs.CsrFile.{CsrFile}
 
 -- ---- the supervisor's trap entry
@@ -14,7 +36,7 @@ is_interrupt cause = cause.0 / 2 ^ 63 == 1
 abbrev pub code_of : Cause → ℕ
 code_of cause = cause.0 % 2 ^ 63
 
--- an interrupt goes to its place in a vector; an exception goes to the base in both modes of `stvec`
+-- an interrupt goes to its place in a vector, an exception to the base in both modes of `stvec`
 abbrev pub vector : (vectored interrupt : Bool) → (base code : ℕ) → ℕ
 vector true true base code = (base + 4 * code) % 2 ^ 64
 vector true false base code = base
@@ -41,14 +63,11 @@ after_sret c = record c { sie = c.spie; spie = true; spp = U }
 
 -- ---- interrupts
 
-abbrev pub interrupt : ℕ → Cause
-interrupt code = record { 0 = 2 ^ 63 + code }
-
 -- external before software, software before timer
 abbrev pub first_interrupt : (external software timer : Bool) → Option Cause
-first_interrupt true software timer = Some (interrupt 9)
-first_interrupt false true timer = Some (interrupt 1)
-first_interrupt false false true = Some (interrupt 5)
+first_interrupt true software timer = Some supervisor_external_interrupt
+first_interrupt false true timer = Some supervisor_software_interrupt
+first_interrupt false false true = Some supervisor_timer_interrupt
 first_interrupt false false false = None
 
 -- interrupts are taken in mode U always, in mode S where SIE is set
@@ -56,14 +75,14 @@ abbrev pub takes_interrupts : Mode → (sie : Bool) → Bool
 takes_interrupts U sie = true
 takes_interrupts S sie = sie
 
-abbrev pub interrupt_if : Bool → CsrFile → (timer external : Bool) → Option Cause
-interrupt_if false c timer external = None
-interrupt_if true c timer external =
-    first_interrupt (external && c.seie) (c.ssip && c.ssie) (timer && c.stie)
+abbrev pub interrupt_if : (takes : Bool) → CsrFile → Wires → Option Cause
+interrupt_if false c wires = None
+interrupt_if true c wires =
+    first_interrupt (wires.external && c.seie) (c.ssip && c.ssie) (wires.timer && c.stie)
 
 -- the interrupt that a hart in this mode takes, of those that are pending and enabled
-abbrev pub interrupt_taken : CsrFile → Mode → (timer external : Bool) → Option Cause
-interrupt_taken c mode timer external = interrupt_if (takes_interrupts mode c.sie) c timer external
+abbrev pub interrupt_taken : CsrFile → Mode → Wires → Option Cause
+interrupt_taken c mode wires = interrupt_if (takes_interrupts mode c.sie) c wires
 
 -- a software interrupt comes
 abbrev pub after_software : CsrFile → CsrFile

@@ -26,7 +26,8 @@ is_between least most n = nat_le least n && nat_le n most
 -- the number of a word, from least to most
 unfoldable pub number_between : (least most : ℕ) → List ℕ → Option ℕ
 number_between least most word =
-    number_if (is_number word && is_between least most (digits_value 10 word)) (digits_value 10 word)
+    number_if (is_number word && is_between least most (digits_value 10 word))
+    (digits_value 10 word)
 
 -- ---- options
 
@@ -45,8 +46,10 @@ with_steps options None None = None
 with_steps options (Some n) value = None
 
 abbrev pub with_option_if : (is_ram is_steps : Bool) → RunOptions → List ℕ → Option RunOptions
-with_option_if true is_steps options value = with_ram options options.ram_pages (number_between 16 4096 value)
-with_option_if false true options value = with_steps options options.steps (number_between 0 1000000000 value)
+with_option_if true is_steps options value = with_ram options options.ram_pages
+    (number_between 16 4096 value)
+with_option_if false true options value = with_steps options options.steps
+    (number_between 0 1000000000 value)
 with_option_if false false options value = None
 
 -- `--ram` has from 16 to 4,096 pages, `--steps` from 0 to 1,000,000,000 events
@@ -75,7 +78,12 @@ is_plain word = is_utf8 word && is_name word
 abbrev pub order_with : List ℕ → Option RunOptions → Option RunOrder
 order_with image None = None
 order_with image (Some options) =
-    Some (record { image = image; ram_pages = unwrap_or options.ram_pages 1024; steps = unwrap_or options.steps 1000000 })
+    Some (record {
+      image = image;
+      ram_pages = unwrap_or options.ram_pages 1024;
+      steps = unwrap_or
+          options.steps 1000000;
+    })
 
 abbrev pub order_if : Bool → List ℕ → List (List ℕ) → Option RunOrder
 order_if false image words = None
@@ -85,4 +93,5 @@ order_if true image words = order_with image (options_of (Some no_options) words
 unfoldable pub order_of : List (List ℕ) → Option RunOrder
 order_of [] = None
 order_of (tool ∷ []) = None
-order_of (tool ∷ image ∷ words) = order_if (bytes_eq tool (codes "run") && is_plain image) image words
+order_of (tool ∷ image ∷ words) = order_if (bytes_eq tool (codes "run") && is_plain image) image
+    words

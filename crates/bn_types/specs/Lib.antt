@@ -1,4 +1,6 @@
 pub mod ExitCodes
 pub mod Numbers
+pub mod Numerals
 pub mod Registers
+pub mod Splitting
 pub mod Visible

@@ -4,11 +4,16 @@ use Rattle.bn_types.specs.Numbers.{bytes_of}
 use Rattle.bn_types.specs.declared.fault.Fault.{Fault}
 use Rattle.bn_types.specs.declared.width.Width.{Width}
 use Rattle.bn_model.specs.declared.place.Place.{Place}
-use Rattle.bn_model.specs.Nesting.{Nested, place}
+use Rattle.bn_model.specs.Memory.{Memory, unowned}
+use Rattle.bn_model.specs.Nesting.{Nested, contents, place}
 
--- the unit's memory: the machine's frames, with the nested tables in them
-pub record Memory : Type 0 where
+-- what stands behind a unit: the machine's frames, with the nested tables in them
+pub record Backing : Type 0 where
   pub nest : Nested
+
+-- the guest's memory; no module is live yet
+abbrev pub memory_of : Backing → Memory
+memory_of b = unowned (contents b.nest)
 
 -- every page of RAM has a frame
 abbrev pub AllPlaced : Nested → Type 0

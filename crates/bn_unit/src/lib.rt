@@ -1,5 +1,5 @@
-//! The memory unit: fetches, loads and stores of the guest by both stages of translation, over nested tables
-//! that lie in the machine's frames.
+//! The memory unit: fetches, loads and stores of the guest by both stages of translation, over
+//! nested tables that lie in the machine's frames.
 #![tactic(auto)]
 
 pub use bn_types::Asker;

@@ -1,16 +1,19 @@
-ghost use Rattle.std.specs.Prelude.{◌≡◌, ℕ, ◌+◌, ◌%◌, ◌^◌, ◌*◌, ◌<◌, ◌≤◌, ◌==◌, Some, Err, IfOk, IsOk, length};
-ghost use Rattle.bn_types.specs.Numbers.{bytes_of};
-ghost use Rattle.bn_model.specs.Accessing.{access, loaded, read_at, stored, words_of_access, written_at};
+ghost use Rattle.std.specs.Prelude.{◌≡◌, ℕ, List, ◌+◌, ◌%◌, ◌^◌, ◌*◌, ◌<◌, ◌≤◌, ◌==◌, Some, Err, IfOk, length};
+ghost use Rattle.bn_types.specs.Numbers.{AreWhole, bytes_of};
+ghost use Rattle.bn_model.specs.Accessing.{access, answer_of_load, guest_words, number_on, pages_after_store, pages_with, words_of_access};
 ghost use Rattle.bn_model.specs.Accessing as accessing;
-ghost use Rattle.bn_model.specs.Nesting.{IsNested, contents, place};
+ghost use Rattle.bn_model.specs.Admission as admission;
+ghost use Rattle.bn_model.specs.Memory.{unowned};
+ghost use Rattle.bn_model.specs.Nesting.{IsNested, contents, place, table_frames};
+ghost use Rattle.bn_model.specs.Nesting as nesting;
 ghost use Rattle.bn_model.specs.CsrFile.{HasMode};
 ghost use Rattle.bn_model.specs.Walking.{guest_page};
 ghost use Rattle.bn_model.specs.Walking as walking;
-ghost use Rattle.bn_unit.specs.Memory.{AllPlaced, Completes, IsWithin};
+ghost use Rattle.bn_unit.specs.Memory.{AllPlaced, Completes, IsWithin, memory_of};
 
 use crate::View;
 use bn_model::Place;
-use bn_types::{Asker, Cause, Fault, Frame, Gpn, Kind, NoMemory, Steps, Width};
+use bn_types::{Asker, Cause, Fault, Frame, Gpn, Kind, ModId, NoMemory, Steps, Width};
 use g_walk::walk;
 use n_walk::Nest;
 use std::alloc::Global;
@@ -20,17 +23,17 @@ use std::sync::ledger::Ledger;
 /// The physical page number at which RAM begins, that of guest physical address 0x80000000.
 const RAM_START: u64 = 0x80000;
 
-/// The machine's memory as harts access it: by the guest's tables, and by the nested tables that lead each
-/// guest page to a machine frame.
+/// The machine's memory as harts access it: by the guest's tables, and by the nested tables that
+/// lead each guest page to a machine frame.
 #[derive(Drop)]
 pub struct Unit {
     nest: Nest,
 }
 
 impl Model for Unit {
-    ghost use Rattle.bn_unit.specs.Memory.{AllPlaced, Memory};
+    ghost use Rattle.bn_unit.specs.Memory.{AllPlaced, Backing};
 
-    ghost Value = { Memory };
+    ghost Value = { Backing };
 
     ghost view = { λ u. record { nest = u.nest } };
 
@@ -38,11 +41,12 @@ impl Model for Unit {
 }
 
 impl Unit {
-    /// The unit over a nest that was built for this many pages of RAM, from 1 to 4,096, all of them placed, and
-    /// that has a frame to spare. There are 1 to 4 harts. It takes no memory yet.
+    /// The unit over a nest that was built for this many pages of RAM, from 1 to 4,096, all of them
+    /// placed, and that has more frames beside its tables than pages. There are 1 to 4 harts. It
+    /// takes no memory yet.
     pub fn build(alloc: Global, nest: Nest, ram_pages: u32, harts: u8) -> Result<Unit, NoMemory>
         requires ram { nest.ram ≡ ram_pages }
-        requires room { 0 < length nest.free }
+        requires room { table_frames nest.ram + nest.ram < length nest.frames }
         requires harts { (0 < harts) × (harts ≤ 4) }
         requires placed { AllPlaced nest }
         ensures { IfOk result (λ unit. unit.nest ≡ nest) }
@@ -55,19 +59,32 @@ impl Unit {
         ensures value { result ≡ self.now.nest.ram }
         ensures count { length (contents self.now.nest) ≡ result }
         ensures range { (0 < result) × (result ≤ 4096) }
-        ensures nested { IsNested self.now.nest }
     {
+        // For the prover: what holds of every unit.
+        self.facts();
         self.nest.ram_pages()
     }
 
-    /// Fetches the 4 bytes of the instruction at the virtual address, a multiple of 4, in the mode and by the
-    /// tables of the one who asks, whose `satp` has MODE 0 (Bare) or 8 (Sv39) (Privileged ISA, "Supervisor Cause
-    /// Register", "Virtual Address Translation Process").
+    /// What holds of every unit: its tables are the tree of its placement, and each page of RAM has
+    /// a frame and 4,096 bytes. It does nothing.
+    pub fn facts(&self)
+        ensures nested { IsNested self.now.nest }
+        ensures placed { AllPlaced self.now.nest }
+        ensures whole { AreWhole (contents self.now.nest) }
+        ensures count { length (contents self.now.nest) ≡ self.now.nest.ram }
+    {
+        // For the prover: what holds of every nest of tables.
+        self.nest.facts();
+    }
+
+    /// Fetches the 4 bytes of the instruction at the virtual address, a multiple of 4, in the mode
+    /// and by the tables of the one who asks, whose `satp` has MODE 0 (Bare) or 8 (Sv39)
+    /// (Privileged ISA, "Supervisor Cause Register", "Virtual Address Translation Process").
     ///
-    /// The fault has the virtual address, and the cause that is met first: 12 where the tables hold no leaf for
-    /// the address or the leaf doesn't permit the fetch, and 1 where a table, or at last the page, lies outside
-    /// RAM. A fetch costs four steps for each of the guest's tables and three for its page, so at most 15, and no
-    /// more than that where it fails.
+    /// The fault has the virtual address, and the cause that is met first: 12 where the tables hold
+    /// no leaf for the address or the leaf doesn't permit the fetch, and 1 where a table, or at
+    /// last the page, lies outside RAM. A fetch costs four steps for each of the guest's tables
+    /// that it reads, and three for its page where it reaches one, so at most 15.
     pub fn fetch<L: Ledger>(
         &mut self,
         who: &Asker,
@@ -76,24 +93,28 @@ impl Unit {
     ) -> Result<u32, Fault>
         requires mode { HasMode who.now.satp }
         requires aligned { va % 4 ≡ 0 }
-        ensures word { let pages = contents self.old.nest in
-            result ≡ loaded pages Width.B4 (access pages who.now Kind.Fetch va Width.B4) }
-        ensures kept { self.new ≡ self.old }
-        ensures walked { IsOk result → steps.new ≡ steps.old + words_of_access (contents self.old.nest) who.now va }
+        ensures word { let m = memory_of self.old in
+            result ≡ answer_of_load m.pages Width.B4 (access m who.now Kind.Fetch va Width.B4) }
+        ensures kept { memory_of self.new ≡ memory_of self.old }
+        ensures nested { IsNested self.new.nest }
+        ensures ram { self.new.nest.ram ≡ self.old.nest.ram }
+        ensures walked { steps.new ≡ steps.old + words_of_access (memory_of self.old) who.now
+            Kind.Fetch va Width.B4 }
         ensures few { steps.new ≤ steps.old + 15 }
     {
         let place = self.reach(who, Kind::Fetch, va, Width::B4, steps)?;
         Ok(self.read(place, Width::B4, steps) as u32)
     }
 
-    /// Loads the number of this width at the virtual address, little endian, in the mode and by the tables of the
-    /// one who asks, whose `satp` has MODE 0 (Bare) or 8 (Sv39) (Privileged ISA, "Supervisor Cause Register",
-    /// "Virtual Address Translation Process").
+    /// Loads the number of this width at the virtual address, little endian, in the mode and by the
+    /// tables of the one who asks, whose `satp` has MODE 0 (Bare) or 8 (Sv39) (Privileged ISA,
+    /// "Supervisor Cause Register", "Virtual Address Translation Process").
     ///
-    /// The fault has the virtual address, and cause 4 where that isn't a multiple of the width in bytes, else
-    /// the cause that is met first: 13 where the tables hold no leaf for the address or the leaf doesn't permit
-    /// the load, and 5 where a table, or at last the page, lies outside RAM. A load costs four steps for each of
-    /// the guest's tables and three for its page, so at most 15, and no more than that where it fails.
+    /// The fault has the virtual address, and cause 4 where that isn't a multiple of the width in
+    /// bytes, else the cause that is met first: 13 where the tables hold no leaf for the address or
+    /// the leaf doesn't permit the load, and 5 where a table, or at last the page, lies outside
+    /// RAM. A load costs four steps for each of the guest's tables that it reads, none where it is
+    /// misaligned, and three for its page where it reaches one, so at most 15.
     pub fn load<L: Ledger>(
         &mut self,
         who: &Asker,
@@ -102,26 +123,31 @@ impl Unit {
         steps: &mut Steps<L>,
     ) -> Result<u64, Fault>
         requires { HasMode who.now.satp }
-        ensures number { let pages = contents self.old.nest in
-            result ≡ loaded pages width (access pages who.now Kind.Load va width) }
+        ensures number { let m = memory_of self.old in
+            result ≡ answer_of_load m.pages width (access m who.now Kind.Load va width) }
         ensures fits { IfOk result (λ number. number < 2 ^ (8 * bytes_of width)) }
-        ensures kept { self.new ≡ self.old }
-        ensures walked { IsOk result → steps.new ≡ steps.old + words_of_access (contents self.old.nest) who.now va }
+        ensures kept { memory_of self.new ≡ memory_of self.old }
+        ensures nested { IsNested self.new.nest }
+        ensures ram { self.new.nest.ram ≡ self.old.nest.ram }
+        ensures walked { steps.new ≡ steps.old + words_of_access (memory_of self.old) who.now
+            Kind.Load va width }
         ensures few { steps.new ≤ steps.old + 15 }
     {
         let place = self.reach(who, Kind::Load, va, width, steps)?;
         Ok(self.read(place, width, steps))
     }
 
-    /// Stores the low bytes of the value, as many as the width has, at the virtual address, little endian, in the
-    /// mode and by the tables of the one who asks, whose `satp` has MODE 0 (Bare) or 8 (Sv39) (Privileged ISA,
-    /// "Supervisor Cause Register", "Virtual Address Translation Process").
+    /// Stores the low bytes of the value, as many as the width has, at the virtual address, little
+    /// endian, in the mode and by the tables of the one who asks, whose `satp` has MODE 0 (Bare) or
+    /// 8 (Sv39) (Privileged ISA, "Supervisor Cause Register", "Virtual Address Translation
+    /// Process").
     ///
-    /// The fault has the virtual address, and cause 6 where that isn't a multiple of the width in bytes, else
-    /// the cause that is met first: 15 where the tables hold no leaf for the address or the leaf doesn't permit
-    /// the store, and 7 where a table, or at last the page, lies outside RAM. Nothing is written then. A store
-    /// costs four steps for each of the guest's tables and three for its page, so at most 15, and no more than
-    /// that where it fails.
+    /// The fault has the virtual address, and cause 6 where that isn't a multiple of the width in
+    /// bytes, else the cause that is met first: 15 where the tables hold no leaf for the address or
+    /// the leaf doesn't permit the store, and 7 where a table, or at last the page, lies outside
+    /// RAM. Nothing is written then. A store costs four steps for each of the guest's tables that
+    /// it reads, none where it is misaligned, and three for its page where it reaches one, so at
+    /// most 15.
     pub fn store<L: Ledger>(
         &mut self,
         who: &Asker,
@@ -131,12 +157,18 @@ impl Unit {
         steps: &mut Steps<L>,
     ) -> Result<(), Fault>
         requires { HasMode who.now.satp }
-        ensures answer { Completes result (access (contents self.old.nest) who.now Kind.Store va width) }
-        ensures stored { let pages = contents self.old.nest in
-            contents self.new.nest ≡ stored pages width value (access pages who.now Kind.Store va width) }
+        ensures answer { Completes result (access (memory_of self.old) who.now Kind.Store va width) }
+        ensures stored { let m = memory_of self.old in memory_of self.new
+            ≡ record m {
+              pages = pages_after_store m.pages width value
+                  (access m who.now Kind.Store va width);
+            } }
         ensures nested { IsNested self.new.nest }
         ensures ram { self.new.nest.ram ≡ self.old.nest.ram }
-        ensures walked { IsOk result → steps.new ≡ steps.old + words_of_access (contents self.old.nest) who.now va }
+        ensures places { (page : ℕ) → place self.new.nest page ≡ place self.old.nest page }
+        ensures free { self.new.nest.free ≡ self.old.nest.free }
+        ensures walked { steps.new ≡ steps.old + words_of_access (memory_of self.old) who.now
+            Kind.Store va width }
         ensures few { steps.new ≤ steps.old + 15 }
     {
         let place = self.reach(who, Kind::Store, va, width, steps)?;
@@ -152,7 +184,7 @@ impl Unit {
     }
 
     /// The place that an access of the kind and width reaches.
-    #[tactic(auto, unfolding(bn_model::specs::Accessing::access, bn_model::specs::Accessing::words_of_access))]
+    #[tactic(auto, unfolding(bn_model::specs::Accessing::access, bn_model::specs::Accessing::guest_words))]
     fn reach<L: Ledger>(
         &self,
         who: &Asker,
@@ -163,12 +195,15 @@ impl Unit {
     ) -> Result<Place, Fault>
         requires mode { HasMode who.now.satp }
         requires fetch { kind ≡ Kind.Fetch → va % bytes_of width ≡ 0 }
-        ensures place { result ≡ access (contents self.now.nest) who.now kind va width }
+        ensures place { result ≡ access (memory_of self.now) who.now kind va width }
         ensures within { IfOk result (λ place. IsWithin self.now.nest.ram place width) }
         ensures nested { IsNested self.now.nest }
-        ensures walked { IsOk result → steps.new + 3 ≡ steps.old + words_of_access (contents self.now.nest) who.now va }
+        ensures walked { steps.new ≡ steps.old + guest_words (memory_of self.now) who.now kind va
+            width }
         ensures few { steps.new ≤ steps.old + 12 }
     {
+        // For the prover: what holds of every unit.
+        self.facts();
         let ram_pages = self.nest.ram_pages();
         if !is_aligned(kind, va, width) {
             return Err(fault_at(va, misaligned(kind)));
@@ -183,7 +218,7 @@ impl Unit {
             who.mxr,
             steps,
         ) {
-            Ok(leaf) => find_place(ram_pages, kind, va, leaf.ppn),
+            Ok(leaf) => find_place(ram_pages, who, kind, va, leaf.ppn),
             Err(cause) => Err(fault_at(va, cause)),
         }
     }
@@ -203,7 +238,7 @@ impl Unit {
     /// The number of this width at the place.
     fn read<L: Ledger>(&self, place: Place, width: Width, steps: &mut Steps<L>) -> u64
         requires within { IsWithin self.now.nest.ram place width }
-        ensures number { result ≡ read_at (contents self.now.nest) width place }
+        ensures number { result ≡ number_on (contents self.now.nest) width place }
         ensures fits { result < 2 ^ (8 * bytes_of width) }
         ensures read { steps.new ≡ steps.old + 3 }
     {
@@ -214,9 +249,13 @@ impl Unit {
     /// Writes the low bytes of the value at the place.
     fn write<L: Ledger>(&mut self, place: Place, width: Width, value: u64, steps: &mut Steps<L>)
         requires within { IsWithin self.old.nest.ram place width }
-        ensures written { contents self.new.nest ≡ written_at (contents self.old.nest) width value place }
+        ensures written { contents self.new.nest ≡ pages_with (contents self.old.nest) width value
+            place }
         ensures nested { IsNested self.new.nest }
         ensures ram { self.new.nest.ram ≡ self.old.nest.ram }
+        ensures places { (page : ℕ) → nesting.place self.new.nest page ≡ nesting.place
+            self.old.nest page }
+        ensures free { self.new.nest.free ≡ self.old.nest.free }
         ensures read { steps.new ≡ steps.old + 3 }
     {
         let frame = self.frame_of(place.page, steps);
@@ -224,8 +263,8 @@ impl Unit {
     }
 }
 
-/// Whether an access of the kind goes to a multiple of its width where it has to. The address of a fetch is
-/// a multiple of 4 always.
+/// Whether an access of the kind goes to a multiple of its width where it has to. The address of a
+/// fetch is a multiple of 4 always.
 fn is_aligned(kind: Kind, va: u64, width: Width) -> bool
     ensures { result ≡ accessing.is_aligned kind va width }
 {
@@ -247,19 +286,35 @@ fn is_multiple(va: u64, width: Width) -> bool
 }
 
 /// The place of an address that leads to this physical page, in a RAM of so many pages.
-fn find_place(ram_pages: u32, kind: Kind, va: u64, ppn: u64) -> Result<Place, Fault>
-    ensures place { result ≡ accessing.reached ram_pages kind va (guest_page ppn) }
+fn find_place(ram_pages: u32, who: &Asker, kind: Kind, va: u64, ppn: u64) -> Result<Place, Fault>
+    ensures place { (pages : List (List ℕ)) → length pages ≡ ram_pages →
+        result ≡ accessing.place_on (unowned pages) who.now kind va (guest_page ppn) }
     ensures page { IfOk result (λ place. place.page.0 < ram_pages) }
     ensures offset { IfOk result (λ place. place.offset ≡ va % 4096) }
 {
     if ppn < RAM_START || ppn - RAM_START >= u64::from(ram_pages) {
         return Err(fault_at(va, access_fault(kind)));
     }
-    // The rule of admission has its place here, once modules own pages.
-    Ok(Place {
-        page: Gpn((ppn - RAM_START) as u32),
-        offset: (va % 4096) as u16,
-    })
+    let page = Gpn((ppn - RAM_START) as u32);
+    if may_leave(who.module, kind) {
+        Ok(Place {
+            page,
+            offset: (va % 4096) as u16,
+        })
+    } else {
+        Err(denial_of(va, kind, page))
+    }
+}
+
+/// Whether a module may access pages that it doesn't declare, where nobody owns them: it runs no
+/// code there.
+fn may_leave(id: ModId, kind: Kind) -> bool
+    ensures { result ≡ admission.may_leave id.0 kind }
+{
+    match kind {
+        Kind::Fetch => id.0 == 0,
+        Kind::Load | Kind::Store => true,
+    }
 }
 
 fn misaligned(kind: Kind) -> Cause
@@ -284,11 +339,23 @@ fn access_fault(kind: Kind) -> Cause
 
 /// An access to the address that failed for this cause. No page was denied.
 fn fault_at(va: u64, cause: Cause) -> Fault
-    ensures { Err result ≡ accessing.failed cause va }
+    ensures { Err result ≡ accessing.fault cause va }
 {
     Fault {
         cause,
         va,
         denied: None,
+    }
+}
+
+/// An access of a kind to the address that the rule of admission refused, since it reaches this
+/// page.
+fn denial_of(va: u64, kind: Kind, page: Gpn) -> Fault
+    ensures { Err result ≡ accessing.denial kind va page.0 }
+{
+    Fault {
+        cause: access_fault(kind),
+        va,
+        denied: Some(page),
     }
 }

@@ -30,7 +30,8 @@ impl<'a> View<'a> {
         View { nest }
     }
 
-    /// Reads the whole page of RAM into 4,096 bytes, zeros where it has no frame. It costs three steps.
+    /// Reads the whole page of RAM into 4,096 bytes, zeros where it has no frame. It costs three
+    /// steps.
     #[tactic(auto, unfolding(bn_types::specs::Numbers::zero_page))]
     pub fn read_page<L: Ledger>(&self, page: Gpn, bytes: &mut [u8], steps: &mut Steps<L>)
         requires inside { page.0 < self.now.ram }
@@ -46,12 +47,14 @@ impl<'a> View<'a> {
 }
 
 impl Pages for View<'_> {
-    ghost use Rattle.bn_model.specs.Accessing.{visible as seen};
+    ghost use Rattle.bn_model.specs.Memory.{unowned, visible as seen};
     ghost use Rattle.bn_model.specs.Nesting.{contents};
 
-    ghost visible = { λ v. seen (contents v) };
+    ghost visible = { λ v. seen (unowned (contents v)) };
 
     fn state(&self, page: Gpn) -> PageState {
+        // For the prover: what holds of every nest of tables.
+        self.nest.facts();
         if page.0 < self.nest.ram_pages() {
             PageState::Free
         } else {
@@ -60,6 +63,8 @@ impl Pages for View<'_> {
     }
 
     fn word<L: Ledger>(&self, page: Gpn, offset: u16, steps: &mut Steps<L>) -> Option<u64> {
+        // For the prover: what holds of every nest of tables.
+        self.nest.facts();
         if page.0 >= self.nest.ram_pages() {
             return None;
         }
@@ -76,9 +81,11 @@ impl Pages for View<'_> {
 fn read_frame(nest: &Nest, frame: Frame, bytes: &mut [u8])
     requires placed { (page : prelude.ℕ) × (place nest.now page ≡ prelude.Some frame) }
     requires room { length bytes.old ≡ 4096 }
-    ensures { (page : prelude.ℕ) → place nest.now page ≡ prelude.Some frame → bytes.new ≡ page_at (contents nest.now) page }
+    ensures { (page : prelude.ℕ) → place nest.now page ≡ prelude.Some frame → bytes.new ≡ page_at
+        (contents nest.now) page }
 {
-    let _ram_pages = nest.ram_pages();
+    // For the prover: what holds of every nest of tables.
+    nest.facts();
     for offset in 0..4096u16 {
         bytes[offset as usize] = nest.load(frame, offset, Width::B1) as u8;
     }

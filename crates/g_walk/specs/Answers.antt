@@ -1,5 +1,5 @@
 -- What the walk's answers are in the definitions of the flat machine.
-use Rattle.std.specs.Prelude.{false, List, Option, Some, None, Result, Ok, Err}
+use Rattle.std.specs.Prelude.{ℕ, false, Option, Some, None, Result, Ok, Err}
 use Rattle.bn_model.specs.Entries as entries
 use Rattle.bn_model.specs.Walking as walking
 use Rattle.bn_types.specs.declared.cause.Cause.{Cause}
@@ -10,7 +10,6 @@ use Rattle.g_walk.specs.declared.fault.LeafFault.TheVariants as faults
 use Rattle.g_walk.specs.declared.found.Leaf.{Leaf}
 use Rattle.g_walk.specs.declared.structure.TableEntry.{TableEntry}
 use Rattle.g_walk.specs.declared.structure.WalkEnd.{WalkEnd}
-use Rattle.bn_types.specs.declared.gpn.Gpn.{Gpn}
 
 abbrev pub kind : EntryKind → entries.EntryKind
 kind kinds.Invalid = entries.Invalid
@@ -29,19 +28,21 @@ abbrev pub fault : LeafFault → walking.WalkFault
 fault faults.Page = walking.NoLeaf
 fault faults.Refused = walking.Refused
 
-abbrev pub found : Result Leaf LeafFault → Result walking.Landing walking.WalkFault
-found (Ok leaf) = Ok (landing leaf)
-found (Err e) = Err (fault e)
+abbrev pub leaf_result : Result Leaf LeafFault → Result walking.Landing walking.WalkFault
+leaf_result (Ok leaf) = Ok (landing leaf)
+leaf_result (Err e) = Err (fault e)
 
--- where the tables end, once the pages read are known
-abbrev pub ended : Result WalkEnd LeafFault → List Gpn → Result walking.Landing walking.WalkFault
-ended (Ok end) tables = Ok (record { ppn = end.ppn; flags = end.flags; bare = false; tables = tables })
-ended (Err e) tables = Err (fault e)
+-- where the tables end
+abbrev pub end_result : Result WalkEnd LeafFault → Result walking.WalkEnd walking.WalkFault
+end_result (Ok end) = Ok (record { ppn = end.ppn; flags = end.flags; bare = false })
+end_result (Err e) = Err (fault e)
 
-abbrev pub reached : Result Leaf Cause → Result walking.Landing Cause
-reached (Ok leaf) = Ok (landing leaf)
-reached (Err cause) = Err cause
+abbrev pub walk_result : Result Leaf Cause → Result walking.Landing Cause
+walk_result (Ok leaf) = Ok (landing leaf)
+walk_result (Err cause) = Err cause
 
-abbrev pub table_word : Option TableEntry → Option walking.TableWord
-table_word None = None
-table_word (Some entry) = Some (record { page = entry.page; word = entry.word })
+-- the entry that was read in a table of a level
+abbrev pub table_entry : ℕ → Option TableEntry → walking.TableEntry
+table_entry level None = walking.Unread
+table_entry level (Some entry) =
+    walking.Entry entry.page entry.word (entries.entry_kind level entry.word)

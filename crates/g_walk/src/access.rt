@@ -2,18 +2,20 @@ ghost use Rattle.std.specs.Prelude.{◌≡◌, ℕ, ◌+◌, ◌*◌, ◌≤◌,
 ghost use Rattle.bn_model.specs.CsrFile.{HasMode};
 ghost use Rattle.bn_model.specs.Walking.{access_fault, page_fault, tables_read, walk_of};
 ghost use Rattle.bn_model.specs.WalkLaws.{AllFree};
-ghost use Rattle.g_walk.specs.Answers.{reached};
+ghost use Rattle.g_walk.specs.Answers.{walk_result};
 
 use crate::{Leaf, LeafFault, leaf, permit};
 use bn_types::{Cause, Kind, Mode, Pages, Steps};
 use std::sync::ledger::Ledger;
 
-/// The walk of an access to the virtual address `va` by `satp`, of the kind and in the mode, with SUM and
-/// MXR of `sstatus` as given: the leaf, where it permits the access (Privileged ISA, "Virtual Address
-/// Translation Process").
+/// The walk of an access to the virtual address `va` by `satp`, of the kind and in the mode, with
+/// SUM and MXR of `sstatus` as given: the leaf, where it permits the access (Privileged ISA,
+/// "Virtual Address Translation Process").
 ///
-/// `satp` has MODE 0 (Bare) or 8 (Sv39), and there are at most 4,096 pages. The error is the access fault
-/// of the kind (1, 5, 7) where a table entry lies on a page that isn't free, and else the page fault of the
+/// `satp` has MODE 0 (Bare) or 8 (Sv39), and there are at most 2^32 pages. The error is the access
+/// fault
+/// of the kind (1, 5, 7) where a table entry lies on a page that isn't free, and else the page
+/// fault of the
 /// kind (12, 13, 15). Each entry that is read costs four steps, so a walk at most twelve.
 pub fn walk<P: Pages, L: Ledger>(
     pages: &P,
@@ -26,11 +28,12 @@ pub fn walk<P: Pages, L: Ledger>(
     steps: &mut Steps<L>,
 ) -> Result<Leaf, Cause>
     requires mode { HasMode satp }
-    requires few { length (P.visible pages.now) ≤ 4096 }
-    ensures walk { reached result ≡ walk_of (P.visible pages.now) satp va kind mode sum mxr }
+    requires few { length (P.visible pages.now) ≤ 2 ^ 32 }
+    ensures walk { walk_result result ≡ walk_of (P.visible pages.now) satp va kind mode sum mxr }
     ensures steps { steps.new ≡ steps.old + 4 * length (tables_read (P.visible pages.now) satp va) }
     ensures few_steps { steps.new ≤ steps.old + 12 }
-    ensures leaf_steps { IfOk result (λ leaf. steps.new ≡ steps.old + 4 * length leaf.tables.items) }
+    ensures leaf_steps { IfOk result (λ leaf.
+        steps.new ≡ steps.old + 4 * length leaf.tables.items) }
     ensures free { IfOk result (λ leaf. AllFree (P.visible pages.now) leaf.tables.items) }
     ensures ppn { IfOk result (λ leaf. leaf.bare ≡ false → leaf.ppn < 2 ^ 44) }
 {

@@ -1,5 +1,6 @@
 ghost use Rattle.std.specs.Prelude.{◌≡◌, ◌<◌, ◌≤◌, ◌||◌};
-ghost use Rattle.bn_model.specs.Entries.{bit, ppn_of, malformed, aligned, entry_kind, user, accessed, dirty};
+ghost use Rattle.bn_model.specs.Bits as bits;
+ghost use Rattle.bn_model.specs.Entries as entries;
 ghost use Rattle.g_walk.specs.Answers.{kind};
 
 // The places of an entry's flags.
@@ -17,7 +18,8 @@ pub const ACCESSED: u32 = 6;
 
 pub const DIRTY: u32 = 7;
 
-/// What an entry is to a walk: none that it can take, the end of the walk, or the way to the next table.
+/// What an entry is to a walk: none that it can take, the end of the walk, or the way to the next
+/// table.
 #[derive(Clone, Copy, Debug, PartialEq, Eq)]
 pub enum EntryKind {
     Invalid,
@@ -28,14 +30,14 @@ pub enum EntryKind {
 /// Whether the bit of an entry is set.
 pub fn is_set(entry: u64, index: u32) -> bool
     requires { index < 64 }
-    ensures { result ≡ bit entry index }
+    ensures { result ≡ bits.is_set entry index }
 {
     (entry >> index) % 2 == 1
 }
 
 /// The physical page number that the entry holds, below 2^44.
 pub fn ppn_in(entry: u64) -> u64
-    ensures { result ≡ ppn_of entry }
+    ensures { result ≡ entries.ppn_of entry }
 {
     (entry >> 10) % (1 << 44)
 }
@@ -43,7 +45,7 @@ pub fn ppn_in(entry: u64) -> u64
 /// What an entry is that is read at the level, 2 for the root.
 pub fn kind_of(level: u8, entry: u64) -> EntryKind
     requires { level ≤ 2 }
-    ensures { kind result ≡ entry_kind level entry }
+    ensures { kind result ≡ entries.entry_kind level entry }
 {
     if is_malformed(entry) {
         return EntryKind::Invalid;
@@ -63,7 +65,7 @@ pub fn kind_of(level: u8, entry: u64) -> EntryKind
 
 /// Not valid at any level: without V, with W but not R, or with one of bits 63:54.
 fn is_malformed(entry: u64) -> bool
-    ensures { result ≡ malformed entry }
+    ensures { result ≡ entries.is_malformed entry }
 {
     !is_set(entry, VALID) || (is_set(entry, WRITE) && !is_set(entry, READ)) || entry >> 54 != 0
 }
@@ -71,14 +73,15 @@ fn is_malformed(entry: u64) -> bool
 /// Whether the page number fits a leaf of the level: a superpage's low 9 or 18 bits are zero.
 fn is_aligned(level: u8, entry: u64) -> bool
     requires { level ≤ 2 }
-    ensures { result ≡ aligned level entry }
+    ensures { result ≡ entries.is_aligned level entry }
 {
     ppn_in(entry) % (1 << (9 * level)) == 0
 }
 
 /// Whether one of U, A and D is set, which a pointer may not have.
 fn has_leaf_flags(entry: u64) -> bool
-    ensures { result ≡ (user entry || accessed entry || dirty entry) }
+    ensures { result
+        ≡ (entries.is_user entry || entries.is_accessed entry || entries.is_dirty entry) }
 {
     is_set(entry, USER) || is_set(entry, ACCESSED) || is_set(entry, DIRTY)
 }

@@ -1,24 +1,23 @@
 ghost use Rattle.std.specs.Prelude.{◌≡◌};
-ghost use Rattle.bn_model.specs.Walking.{flags_permit, grants, marked, permits, reaches};
-ghost use Rattle.bn_model.specs.Entries.{bit};
+ghost use Rattle.bn_model.specs.Walking as walking;
 ghost use Rattle.g_walk.specs.Answers.{landing};
 
 use crate::Leaf;
 use crate::entry::{ACCESSED, DIRTY, EXECUTE, READ, USER, WRITE, is_set};
 use bn_types::{Kind, Mode};
 
-/// Whether the leaf permits an access of the kind in the mode, with SUM and MXR of `sstatus` as given: its
-/// R, W, X and U, with A set, and D for a store (Privileged ISA, "Virtual Address Translation Process").
-/// In Bare everything is permitted.
+/// Whether the leaf permits an access of the kind in the mode, with SUM and MXR of `sstatus` as
+/// given: its R, W, X and U, with A set, and D for a store (Privileged ISA, "Virtual Address
+/// Translation Process"). In Bare everything is permitted.
 pub fn permit(leaf: &Leaf, kind: Kind, mode: Mode, sum: bool, mxr: bool) -> bool
-    ensures { result ≡ permits (landing leaf.now) kind mode sum mxr }
+    ensures { result ≡ walking.permits (landing leaf.now) kind mode sum mxr }
 {
     leaf.bare || do_flags_permit(leaf.flags as u64, kind, mode, sum, mxr)
 }
 
 #[tactic(auto, unfolding(bn_model::specs::Walking::flags_permit))]
 fn do_flags_permit(flags: u64, kind: Kind, mode: Mode, sum: bool, mxr: bool) -> bool
-    ensures { result ≡ flags_permit flags kind mode sum mxr }
+    ensures { result ≡ walking.flags_permit flags kind mode sum mxr }
 {
     is_granted(flags, kind, mxr)
         && is_reached(is_set(flags, USER), kind, mode, sum)
@@ -26,7 +25,7 @@ fn do_flags_permit(flags: u64, kind: Kind, mode: Mode, sum: bool, mxr: bool) -> 
 }
 
 fn is_granted(flags: u64, kind: Kind, mxr: bool) -> bool
-    ensures { result ≡ grants kind mxr flags }
+    ensures { result ≡ walking.grants kind mxr flags }
 {
     match kind {
         Kind::Fetch => is_set(flags, EXECUTE),
@@ -36,7 +35,7 @@ fn is_granted(flags: u64, kind: Kind, mxr: bool) -> bool
 }
 
 fn is_reached(user: bool, kind: Kind, mode: Mode, sum: bool) -> bool
-    ensures { result ≡ reaches mode user kind sum }
+    ensures { result ≡ walking.reaches mode user kind sum }
 {
     match mode {
         Mode::U => user,
@@ -45,7 +44,7 @@ fn is_reached(user: bool, kind: Kind, mode: Mode, sum: bool) -> bool
 }
 
 fn is_marked(flags: u64, kind: Kind) -> bool
-    ensures { result ≡ marked kind flags }
+    ensures { result ≡ walking.is_marked kind flags }
 {
     is_set(flags, ACCESSED) && (kind != Kind::Store || is_set(flags, DIRTY))
 }

@@ -1,8 +1,8 @@
-ghost use Rattle.std.specs.Prelude.{◌≡◌, ℕ, ◌+◌, ◌*◌, ◌<◌, ◌≤◌, ◌^◌, ◌%◌, List, Ok, Some, [], false, length, IfOk, IfSome, IfNone};
+ghost use Rattle.std.specs.Prelude.{◌≡◌, ℕ, ◌+◌, ◌*◌, ◌<◌, ◌≤◌, ◌^◌, ◌%◌, ◌++◌, Ok, Some, [], false, length, IfOk, IfSome, IfNone};
 ghost use Rattle.bn_model.specs.CsrFile.{HasMode};
-ghost use Rattle.bn_model.specs.Walking.{canonical, entry_at, found_leaf, guest_page, index_of, leaf_of, tables_read, walk_bare, walk_from};
+ghost use Rattle.bn_model.specs.Walking.{entry_at, guest_page, index_of, is_canonical, landing_of, leaf_end, leaf_of, tables_read, walk_bare, walk_from};
 ghost use Rattle.bn_model.specs.WalkLaws.{AllFree};
-ghost use Rattle.g_walk.specs.Answers.{ended, found, landing, table_word};
+ghost use Rattle.g_walk.specs.Answers.{end_result, landing, leaf_result, table_entry};
 
 use crate::entry::{EntryKind, kind_of, ppn_in};
 use crate::{Leaf, LeafFault};
@@ -24,12 +24,14 @@ struct WalkEnd {
     flags: u8,
 }
 
-/// The structural walk of the virtual address `va` by `satp`: the leaf that the tables lead to, without
-/// tests of permission, A and D (Privileged ISA, "Virtual Address Translation Process"). In Bare it is
-/// the address's own page.
+/// The structural walk of the virtual address `va` by `satp`: the leaf that the tables lead to,
+/// without tests of permission, A and D (Privileged ISA, "Virtual Address Translation Process"). In
+/// Bare it is the address's own page.
 ///
-/// `satp` has MODE 0 (Bare) or 8 (Sv39), and there are at most 4,096 pages. `Page`: bits 63:39 of the
-/// address don't equal bit 38, or an entry on the way is invalid. `Refused`: an entry on the way lies on a
+/// `satp` has MODE 0 (Bare) or 8 (Sv39), and there are at most 2^32 pages. `Page`: bits 63:39 of
+/// the
+/// address don't equal bit 38, or an entry on the way is invalid. `Refused`: an entry on the way
+/// lies on a
 /// page that isn't free. Each entry that is read costs four steps, so a walk at most twelve.
 #[tactic(auto, unfolding(bn_model::specs::Walking::walked))]
 pub fn leaf<P: Pages, L: Ledger>(
@@ -39,11 +41,12 @@ pub fn leaf<P: Pages, L: Ledger>(
     steps: &mut Steps<L>,
 ) -> Result<Leaf, LeafFault>
     requires mode { HasMode satp }
-    requires few { length (P.visible pages.now) ≤ 4096 }
-    ensures leaf { found result ≡ leaf_of (P.visible pages.now) satp va }
+    requires few { length (P.visible pages.now) ≤ 2 ^ 32 }
+    ensures leaf { leaf_result result ≡ leaf_of (P.visible pages.now) satp va }
     ensures steps { steps.new ≡ steps.old + 4 * length (tables_read (P.visible pages.now) satp va) }
     ensures few_steps { steps.new ≤ steps.old + 12 }
-    ensures leaf_steps { IfOk result (λ leaf. steps.new ≡ steps.old + 4 * length leaf.tables.items) }
+    ensures leaf_steps { IfOk result (λ leaf.
+        steps.new ≡ steps.old + 4 * length leaf.tables.items) }
     ensures free { IfOk result (λ leaf. AllFree (P.visible pages.now) leaf.tables.items) }
     ensures ppn { IfOk result (λ leaf. leaf.bare ≡ false → leaf.ppn < 2 ^ 44) }
 {
@@ -63,9 +66,11 @@ fn walk_tables<P: Pages, L: Ledger>(
     root: u64,
     steps: &mut Steps<L>,
 ) -> Result<Leaf, LeafFault>
-    requires few { length (P.visible pages.now) ≤ 4096 }
-    ensures leaf { found result ≡ (walk_from (P.visible pages.now) va 2 root []).found }
-    ensures steps { steps.new ≡ steps.old + 4 * length (walk_from (P.visible pages.now) va 2 root []).read }
+    requires few { length (P.visible pages.now) ≤ 2 ^ 32 }
+    ensures leaf { let walk = walk_from (P.visible pages.now) va 2 root in
+        leaf_result result ≡ landing_of walk.tables walk.found }
+    ensures steps { steps.new ≡ steps.old
+        + 4 * length (walk_from (P.visible pages.now) va 2 root).tables }
 {
     let mut tables = ArrayVec::new();
     match descend(pages, va, 2, root, &mut tables, steps) {
@@ -81,7 +86,7 @@ fn walk_tables<P: Pages, L: Ledger>(
 
 /// The address's own page.
 fn in_bare(va: u64) -> Leaf
-    ensures { Ok (landing result) ≡ (walk_bare va).found }
+    ensures { Ok (landing result) ≡ landing_of [] (walk_bare va).found }
 {
     Leaf {
         ppn: va >> 12,
@@ -93,7 +98,7 @@ fn in_bare(va: u64) -> Leaf
 
 /// Whether bits 63:39 equal bit 38.
 fn is_canonical(va: u64) -> bool
-    ensures { result ≡ canonical va }
+    ensures { result ≡ is_canonical va }
 {
     let high = va >> 38;
     high == 0 || high == (1 << 26) - 1
@@ -128,8 +133,8 @@ fn read_entry<P: Pages, L: Ledger>(
     steps: &mut Steps<L>,
 ) -> Option<TableEntry>
     requires level { level ≤ 2 }
-    requires few { length (P.visible pages.now) ≤ 4096 }
-    ensures entry { table_word result ≡ entry_at (P.visible pages.now) va level ppn }
+    requires few { length (P.visible pages.now) ≤ 2 ^ 32 }
+    ensures entry { table_entry level result ≡ entry_at (P.visible pages.now) va level ppn }
     ensures none { IfNone result (steps.new ≡ steps.old) }
     ensures some { IfSome result (λ _. steps.new ≡ steps.old + 4) }
 {
@@ -142,7 +147,7 @@ fn read_entry<P: Pages, L: Ledger>(
 /// address.
 fn end_at(va: u64, level: u8, entry: u64) -> WalkEnd
     requires { level ≤ 2 }
-    ensures { (tables : List Gpn) → ended (Ok result) tables ≡ (found_leaf va level entry tables).found }
+    ensures { end_result (Ok result) ≡ Ok (leaf_end va level entry) }
 {
     WalkEnd {
         ppn: ppn_in(entry) + (va >> 12) % (1 << (9 * level)),
@@ -150,8 +155,8 @@ fn end_at(va: u64, level: u8, entry: u64) -> WalkEnd
     }
 }
 
-/// Walks on from the table of a level, on the page with number `ppn`, and appends the pages whose entries it
-/// reads to those that were read.
+/// Walks on from the table of a level, on the page with number `ppn`, and appends the pages whose
+/// entries it reads to those that were read.
 fn descend<P: Pages, L: Ledger>(
     pages: &P,
     va: u64,
@@ -161,11 +166,12 @@ fn descend<P: Pages, L: Ledger>(
     steps: &mut Steps<L>,
 ) -> Result<WalkEnd, LeafFault>
     requires room { length tables.old.items + level ≤ 2 }
-    requires few { length (P.visible pages.now) ≤ 4096 }
-    ensures leaf { ended result tables.new.items
-        ≡ (walk_from (P.visible pages.now) va level ppn tables.old.items).found }
-    ensures steps { let walk = walk_from (P.visible pages.now) va level ppn tables.old.items in
-        steps.new + 4 * length tables.old.items ≡ steps.old + 4 * length walk.read }
+    requires few { length (P.visible pages.now) ≤ 2 ^ 32 }
+    ensures leaf { end_result result ≡ (walk_from (P.visible pages.now) va level ppn).found }
+    ensures tables { tables.new.items ≡ tables.old.items
+        ++ (walk_from (P.visible pages.now) va level ppn).tables }
+    ensures steps { steps.new ≡ steps.old
+        + 4 * length (walk_from (P.visible pages.now) va level ppn).tables }
 {
     let Some(entry) = read_entry(pages, va, level, ppn, steps) else {
         return Err(LeafFault::Refused);

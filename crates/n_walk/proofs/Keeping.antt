@@ -11,21 +11,7 @@ use Rattle.bn_model.proofs.PageNumbers.{length-with_number, length-zero_page}
 use Rattle.bn_model.proofs.NestingLaws.{placed-inside, contents-set, get_or-contents, length-contents}
 use Rattle.bn_model.proofs.PlacingLaws.{placed-past, tree-past}
 use Rattle.n_walk.specs.Holding.{Holds, IsPool, listed}
-
--- frames stay of one size
-pub sizes-set : (frames : List (List ℕ)) (f : ℕ) (bytes : List ℕ) → length bytes ≡ 4096
-    → ((t : ℕ) → t < length frames → length (page_at frames t) ≡ 4096)
-    → (t : ℕ) → t < length (set frames f bytes) → length (page_at (set frames f bytes) t) ≡ 4096
-sizes-set frames f bytes size sizes t lt = go (cases_eq t f) where
-  below : t < length frames
-  below = subst (λ (n : ℕ). t < n) (length-set frames f bytes) lt
-
-  go : (t ≡ f) ⊎ (t ≡ f → ⊥) → length (page_at (set frames f bytes) t) ≡ 4096
-  go (inl e) =
-      let at : f < length frames = subst (λ (w : ℕ). w < length frames) e below in
-      subst (λ (w : ℕ). length (page_at (set frames f bytes) w) ≡ 4096) (sym e)
-      (ap length (get_or-set_same frames f bytes [] at) ∙ size)
-  go (inr ne) = ap length (get_or-set_other frames f t bytes [] ne) ∙ sizes t below
+use Rattle.n_walk.proofs.Writing.{whole-set}
 
 -- the nested tables after a frame past the tables changes
 pub nested-past : (n : Nested) (f : ℕ) (bytes : List ℕ) (free : List Frame) → table_frames n.ram ≤ f → IsNested n
@@ -68,7 +54,7 @@ holds-changed n page frame bytes h e size =
       most = h.most;
       room = subst (λ (k : ℕ). table_frames n.ram ≤ k) (sym (length-set n.frames frame.0 bytes)) h.room;
       few = subst (λ (k : ℕ). k ≤ 4125) (sym (length-set n.frames frame.0 bytes)) h.few;
-      sizes = sizes-set n.frames frame.0 bytes size h.sizes;
+      whole = whole-set n.frames frame.0 bytes size h.whole;
     }
 
 -- its page has these bytes, and the others stay
@@ -105,7 +91,7 @@ contents-changed n page frame bytes h e =
 pub size-written : (n : Nested) (page : ℕ) (frame : Frame) (width : Width) (offset value : ℕ) → Holds n → place n page ≡ Some frame
     → offset % bytes_of width ≡ 0 → offset < 4096 → length (with_number width (page_at n.frames frame.0) offset value) ≡ 4096
 size-written n page frame width offset value h e aligned inside =
-    let size : length (page_at n.frames frame.0) ≡ 4096 = h.sizes frame.0 (h.nested.inside page frame e) in
+    let size : length (page_at n.frames frame.0) ≡ 4096 = h.whole frame.0 (h.nested.inside page frame e) in
     length-with_number width (page_at n.frames frame.0) offset value (rw size (fits width aligned)) ∙ size
   where
     fits : (w : Width) → offset % bytes_of w ≡ 0 → offset + bytes_of w ≤ 4096
@@ -122,4 +108,4 @@ whole-contents n h page lt =
   where
     size : (p : Option Frame) → place n page ≡ p → length (page_in n.frames p) ≡ 4096
     size None e = length-zero_page
-    size (Some frame) e = h.sizes frame.0 (h.nested.inside page frame e)
+    size (Some frame) e = h.whole frame.0 (h.nested.inside page frame e)

@@ -2,15 +2,13 @@
 use Rattle.std.proofs.Common.{◌≡◌, ℕ, ◌+◌, ◌*◌, ◌/◌, ◌%◌, ◌<◌, ◌≤◌, ◌⊎◌, List, [], ◌∷◌, ◌++◌, Option, Some, None, length, set, inl, inr, refl, sym, ap, subst, ◌∙◌, arith, get_or-set_same, get_or-set_other}
 use Rattle.std.proofs.lemmas.Bool.{cases_eq, cases_lt}
 use Rattle.std.proofs.lemmas.List.{length-set, get_or_append_left, get_or_at, length_push}
-use Rattle.bn_types.specs.Numbers.{page_at, with_number, zero_page}
+use Rattle.bn_types.specs.Numbers.{AreWhole, page_at, zero_page}
 use Rattle.bn_types.specs.declared.frame.Frame.{Frame}
-use Rattle.bn_types.specs.declared.width.Width.TheVariants.{B8}
-use Rattle.bn_model.specs.Nesting.{Nested, IsTree, IsNested, IsFree, leaf_to, table_frames, placed_in, page_in, contents_in, led}
-use Rattle.bn_model.proofs.PageNumbers.{length-with_number, length-zero_page}
+use Rattle.bn_model.specs.Nesting.{Nested, IsTree, IsNested, IsFree, table_frames, placed_in, page_in, contents_in}
 use Rattle.bn_model.proofs.NestingLaws.{contents-same}
-use Rattle.bn_model.proofs.PlacingLaws.{CanLead, placed-past, tree-past, placed-led, placed-other, tree-led}
+use Rattle.bn_model.proofs.PlacingLaws.{placed-past, tree-past}
 use Rattle.n_walk.specs.Holding.{Holds, IsPool, listed}
-use Rattle.n_walk.proofs.Keeping.{sizes-set}
+use Rattle.n_walk.proofs.Writing.{IsLeaf, placed-led, placed-other, tree-led}
 
 -- a pool whose last frame is taken
 pub listed-front : (rest : List Frame) (frame : Frame) (i : ℕ) → i < length rest
@@ -43,58 +41,33 @@ placed-other_frame : (frames : List (List ℕ)) (ram : ℕ) (rest : List Frame) 
 placed-other_frame frames ram rest frame other f h e z =
     (last-free frames ram rest frame h).unplaced other (e ∙ ap (λ (g : Frame). Some g) (frame-from_number f frame z))
 
--- new: the frames after the page is led to the free frame
+-- new: the frames after the frame got its bytes and the page was led to it
 pub record IsLed (frames new : List (List ℕ)) (ram page : ℕ) (frame : Frame) : Type 0 where
   pub long : length new ≡ length frames
-  pub sizes : (t : ℕ) → t < length new → length (page_at new t) ≡ 4096
+  pub whole : AreWhole new
   pub tree : (free : List Frame) → IsTree (after new ram free)
   pub here : placed_in ram new page ≡ Some frame
   pub others : (other : ℕ) → (other ≡ page → ⊥) → placed_in ram new other ≡ placed_in ram frames other
   pub kept : (other : ℕ) (f : Frame) → (other ≡ page → ⊥) → placed_in ram frames other ≡ Some f
       → page_at new f.0 ≡ page_at frames f.0
 
-abbrev pub led_with : List (List ℕ) → ℕ → Frame → List ℕ → List (List ℕ)
-led_with frames page frame bytes = led (set frames frame.0 bytes) page frame
-
-pub can-lead : (frames : List (List ℕ)) (ram : ℕ) (rest : List Frame) (frame : Frame) (page : ℕ) (bytes : List ℕ)
-    → Holds (before frames ram rest frame) → page < ram → length bytes ≡ 4096
-    → CanLead ram (set frames frame.0 bytes) page frame
-can-lead frames ram rest frame page bytes h lt size =
-    let is_free = last-free frames ram rest frame h in
-    let long = length-set frames frame.0 bytes in
-    let room = h.room in
-    let few = h.few in
-    let inside = is_free.inside in
-    let table : 5 + page / 512 < length (set frames frame.0 bytes) = omega arith in
-    record {
-      inside = lt;
-      table = table;
-      size = sizes-set frames frame.0 bytes size h.sizes (5 + page / 512) table;
-      fits = omega arith;
-    }
-
-pub is-led : (frames : List (List ℕ)) (ram : ℕ) (rest : List Frame) (frame : Frame) (page : ℕ) (bytes : List ℕ)
-    → Holds (before frames ram rest frame) → page < ram → length bytes ≡ 4096
-    → IsLed frames (led_with frames page frame bytes) ram page frame
-is-led frames ram rest frame page bytes h lt size =
-    let can = can-lead frames ram rest frame page bytes h lt size in
+pub is-led : (frames new : List (List ℕ)) (ram : ℕ) (rest : List Frame) (frame : Frame) (page : ℕ) (bytes : List ℕ)
+    → Holds (before frames ram rest frame) → page < ram → IsLeaf (set frames frame.0 bytes) new page frame
+    → IsLed frames new ram page frame
+is-led frames new ram rest frame page bytes h lt w =
     let is_free = last-free frames ram rest frame h in
     let one : List (List ℕ) = set frames frame.0 bytes in
-    let table = 5 + page / 512 in
-    let entry = with_number B8 (page_at one table) (8 * (page % 512)) (leaf_to (Some frame)) in
-    let entry_size : length entry ≡ 4096 =
-    length-with_number B8 (page_at one table) (8 * (page % 512)) (leaf_to (Some frame)) (rw can.size (omega arith)) ∙ can.size in
     record {
-      long = length-set one table entry ∙ length-set frames frame.0 bytes;
-      sizes = sizes-set one table entry entry_size (sizes-set frames frame.0 bytes size h.sizes);
+      long = w.long ∙ length-set frames frame.0 bytes;
+      whole = w.whole;
       tree = λ free.
-          tree-led (after one ram free) page frame free can
+          tree-led one new ram page frame free free lt w
           (tree-past (before frames ram rest frame) frame.0 bytes free is_free.apart h.nested.tree);
-      here = placed-led ram one page frame can;
-      others = λ other ne. placed-other ram one page frame other can ne ∙ placed-past ram frames frame.0 bytes other is_free.apart;
+      here = placed-led one new ram page frame lt w;
+      others = λ other ne. placed-other one new ram page frame other w ne ∙ placed-past ram frames frame.0 bytes other is_free.apart;
       kept = λ other f ne e.
           let past = h.nested.apart other f e in
-          get_or-set_other one table f.0 entry [] (λ z. absurd (omega arith))
+          w.kept f.0 (λ z. absurd (omega arith))
           ∙ get_or-set_other frames frame.0 f.0 bytes [] (placed-other_frame frames ram rest frame other f h e);
     }
 
@@ -194,7 +167,7 @@ numbers-led frames new ram rest frame page free h l pool = record {
   most = h.most;
   room = subst (λ (n : ℕ). table_frames ram ≤ n) (sym l.long) h.room;
   few = subst (λ (n : ℕ). n ≤ 4125) (sym l.long) h.few;
-  sizes = l.sizes;
+  whole = l.whole;
 }
 
 -- an unplaced page is led to the last frame of the pool
@@ -252,29 +225,18 @@ contents-led frames new ram rest frame page h l bytes = contents-same ram frames
   go other (inr ne) = ap (page_in new) (l.others other ne) ∙ elsewhere other (placed_in ram frames other) ne refl
 
 -- the bytes that the frame was given
-pub bytes-led : (frames : List (List ℕ)) (ram : ℕ) (rest : List Frame) (frame : Frame) (page : ℕ) (bytes : List ℕ)
-    → Holds (before frames ram rest frame) → page < ram → page_at (led_with frames page frame bytes) frame.0 ≡ bytes
-bytes-led frames ram rest frame page bytes h lt =
+pub bytes-led : (frames new : List (List ℕ)) (ram : ℕ) (rest : List Frame) (frame : Frame) (page : ℕ) (bytes : List ℕ)
+    → Holds (before frames ram rest frame) → page < ram → IsLeaf (set frames frame.0 bytes) new page frame
+    → page_at new frame.0 ≡ bytes
+bytes-led frames new ram rest frame page bytes h lt w =
     let is_free = last-free frames ram rest frame h in
     let past = is_free.apart in
-    get_or-set_other (set frames frame.0 bytes) (5 + page / 512) frame.0
-    (with_number B8 (page_at (set frames frame.0 bytes) (5 + page / 512)) (8 * (page % 512)) (leaf_to (Some frame))) []
-    (λ e. absurd (omega arith))
-    ∙ get_or-set_same frames frame.0 bytes [] is_free.inside
-
--- the facts of a page that was led there
-pub led-by : (frames new : List (List ℕ)) (ram : ℕ) (rest : List Frame) (frame : Frame) (page : ℕ) (bytes : List ℕ)
-    → Holds (before frames ram rest frame) → page < ram → length bytes ≡ 4096 → new ≡ led_with frames page frame bytes
-    → IsLed frames new ram page frame
-led-by frames new ram rest frame page bytes h lt size e =
-    subst (λ (fs : List (List ℕ)). IsLed frames fs ram page frame) (sym e) (is-led frames ram rest frame page bytes h lt size)
+    w.kept frame.0 (λ e. absurd (omega arith)) ∙ get_or-set_same frames frame.0 bytes [] is_free.inside
 
 -- the guest's pages after an unplaced page got a frame of zeros
 pub contents-mapped : (frames new : List (List ℕ)) (ram : ℕ) (rest : List Frame) (frame : Frame) (page : ℕ)
     → Holds (before frames ram rest frame) → page < ram → placed_in ram frames page ≡ None
-    → new ≡ led_with frames page frame zero_page → contents_in ram new ≡ contents_in ram frames
-contents-mapped frames new ram rest frame page h lt none e =
-    contents-led frames new ram rest frame page h (led-by frames new ram rest frame page zero_page h lt length-zero_page e)
-    (ap (λ (fs : List (List ℕ)). page_at fs frame.0) e
-    ∙ bytes-led frames ram rest frame page zero_page h lt
-    ∙ ap (page_in frames) (sym none))
+    → IsLeaf (set frames frame.0 zero_page) new page frame → contents_in ram new ≡ contents_in ram frames
+contents-mapped frames new ram rest frame page h lt none w =
+    contents-led frames new ram rest frame page h (is-led frames new ram rest frame page zero_page h lt w)
+    (bytes-led frames new ram rest frame page zero_page h lt w ∙ ap (page_in frames) (sym none))

@@ -3,3 +3,4 @@ pub mod Leading
 pub mod Looking
 pub mod Moving
 pub mod Starting
+pub mod Writing

@@ -8,77 +8,76 @@ use Rattle.bn_model.specs.Nesting.{IsFree, placed_in, page_in, contents_in}
 use Rattle.bn_model.proofs.PageNumbers.{length-zero_page}
 use Rattle.bn_model.proofs.PlacingLaws.{placed-past, tree-past}
 use Rattle.n_walk.specs.Holding.{Holds, IsPool, listed}
-use Rattle.n_walk.proofs.Keeping.{sizes-set}
-use Rattle.n_walk.proofs.Leading.{before, after, IsLed, led_with, led-by, unsome, frame-from_number, last-free, listed-front, listed-last, rest-free, rest-once, rest-unplaced, numbers-led, contents-led, bytes-led}
-
--- the frames after a page moves from a frame to another
-abbrev pub moved : List (List ℕ) → ℕ → Frame → Frame → List (List ℕ)
-moved frames page frame left = set (led_with frames page frame (page_at frames left.0)) left.0 zero_page
+use Rattle.n_walk.proofs.Leading.{before, after, IsLed, is-led, unsome, frame-from_number, last-free, listed-front, listed-last, rest-free, rest-once, rest-unplaced, numbers-led, contents-led, bytes-led}
+use Rattle.n_walk.proofs.Writing.{IsLeaf, whole-set}
 
 -- what a move rests on: the page lies on the frame that it leaves, and the other one is free
-pub record CanMove (frames : List (List ℕ)) (ram : ℕ) (rest : List Frame) (frame : Frame) (page : ℕ) (left : Frame) : Type 0 where
+pub record CanMove (frames one : List (List ℕ)) (ram : ℕ) (rest : List Frame) (frame : Frame) (page : ℕ) (left : Frame) : Type 0 where
   pub holds : Holds (before frames ram rest frame)
   pub inside : page < ram
   pub placed : placed_in ram frames page ≡ Some left
+  -- and the frames after the page was led to the free one, with its bytes
+  pub led : IsLeaf (set frames frame.0 (page_at frames left.0)) one page frame
+
+-- the frames after the frame that it left was cleared
+abbrev pub moved : List (List ℕ) → Frame → List (List ℕ)
+moved one left = set one left.0 zero_page
 
 -- the frame that is left is another one
-pub left-other : (frames : List (List ℕ)) (ram : ℕ) (rest : List Frame) (frame : Frame) (page : ℕ) (left : Frame)
-    → CanMove frames ram rest frame page left → left ≡ frame → ⊥
-left-other frames ram rest frame page left m e =
+pub left-other : (frames one : List (List ℕ)) (ram : ℕ) (rest : List Frame) (frame : Frame) (page : ℕ) (left : Frame)
+    → CanMove frames one ram rest frame page left → left ≡ frame → ⊥
+left-other frames one ram rest frame page left m e =
     (last-free frames ram rest frame m.holds).unplaced page (m.placed ∙ ap (λ (g : Frame). Some g) e)
 
-pub is-moved : (frames : List (List ℕ)) (ram : ℕ) (rest : List Frame) (frame : Frame) (page : ℕ) (left : Frame)
-    → CanMove frames ram rest frame page left
-    → IsLed frames (led_with frames page frame (page_at frames left.0)) ram page frame
-is-moved frames ram rest frame page left m =
-    led-by frames (led_with frames page frame (page_at frames left.0)) ram rest frame page (page_at frames left.0) m.holds m.inside
-    (m.holds.sizes left.0 (m.holds.nested.inside page left m.placed)) refl
+pub is-moved : (frames one : List (List ℕ)) (ram : ℕ) (rest : List Frame) (frame : Frame) (page : ℕ) (left : Frame)
+    → CanMove frames one ram rest frame page left → IsLed frames one ram page frame
+is-moved frames one ram rest frame page left m =
+    is-led frames one ram rest frame page (page_at frames left.0) m.holds m.inside m.led
 
 -- the places after a move
-pub placed-moved : (frames : List (List ℕ)) (ram : ℕ) (rest : List Frame) (frame : Frame) (page : ℕ) (left : Frame) (other : ℕ)
-    → CanMove frames ram rest frame page left
-    → placed_in ram (moved frames page frame left) other
-    ≡ placed_in ram (led_with frames page frame (page_at frames left.0)) other
-placed-moved frames ram rest frame page left other m =
-    placed-past ram (led_with frames page frame (page_at frames left.0)) left.0 zero_page other
+pub placed-moved : (frames one : List (List ℕ)) (ram : ℕ) (rest : List Frame) (frame : Frame) (page : ℕ) (left : Frame) (other : ℕ)
+    → CanMove frames one ram rest frame page left
+    → placed_in ram (moved one left) other
+    ≡ placed_in ram one other
+placed-moved frames one ram rest frame page left other m =
+    placed-past ram one left.0 zero_page other
     (m.holds.nested.apart page left m.placed)
 
-pub here-moved : (frames : List (List ℕ)) (ram : ℕ) (rest : List Frame) (frame : Frame) (page : ℕ) (left : Frame)
-    → CanMove frames ram rest frame page left → placed_in ram (moved frames page frame left) page ≡ Some frame
-here-moved frames ram rest frame page left m =
-    placed-moved frames ram rest frame page left page m ∙ (is-moved frames ram rest frame page left m).here
+pub here-moved : (frames one : List (List ℕ)) (ram : ℕ) (rest : List Frame) (frame : Frame) (page : ℕ) (left : Frame)
+    → CanMove frames one ram rest frame page left → placed_in ram (moved one left) page ≡ Some frame
+here-moved frames one ram rest frame page left m =
+    placed-moved frames one ram rest frame page left page m ∙ (is-moved frames one ram rest frame page left m).here
 
-pub others-moved : (frames : List (List ℕ)) (ram : ℕ) (rest : List Frame) (frame : Frame) (page : ℕ) (left : Frame)
-    → CanMove frames ram rest frame page left → (other : ℕ) → (other ≡ page → ⊥)
-    → placed_in ram (moved frames page frame left) other ≡ placed_in ram frames other
-others-moved frames ram rest frame page left m other ne =
-    placed-moved frames ram rest frame page left other m ∙ (is-moved frames ram rest frame page left m).others other ne
+pub others-moved : (frames one : List (List ℕ)) (ram : ℕ) (rest : List Frame) (frame : Frame) (page : ℕ) (left : Frame)
+    → CanMove frames one ram rest frame page left → (other : ℕ) → (other ≡ page → ⊥)
+    → placed_in ram (moved one left) other ≡ placed_in ram frames other
+others-moved frames one ram rest frame page left m other ne =
+    placed-moved frames one ram rest frame page left other m ∙ (is-moved frames one ram rest frame page left m).others other ne
 
-pub long-moved : (frames : List (List ℕ)) (ram : ℕ) (rest : List Frame) (frame : Frame) (page : ℕ) (left : Frame)
-    → CanMove frames ram rest frame page left → length (moved frames page frame left) ≡ length frames
-long-moved frames ram rest frame page left m =
-    length-set (led_with frames page frame (page_at frames left.0)) left.0 zero_page
-    ∙ (is-moved frames ram rest frame page left m).long
+pub long-moved : (frames one : List (List ℕ)) (ram : ℕ) (rest : List Frame) (frame : Frame) (page : ℕ) (left : Frame)
+    → CanMove frames one ram rest frame page left → length (moved one left) ≡ length frames
+long-moved frames one ram rest frame page left m =
+    length-set one left.0 zero_page
+    ∙ (is-moved frames one ram rest frame page left m).long
 
 -- the frame that is left holds zeros
-pub zeros-moved : (frames : List (List ℕ)) (ram : ℕ) (rest : List Frame) (frame : Frame) (page : ℕ) (left : Frame)
-    → CanMove frames ram rest frame page left → page_at (moved frames page frame left) left.0 ≡ zero_page
-zeros-moved frames ram rest frame page left m =
-    get_or-set_same (led_with frames page frame (page_at frames left.0)) left.0 zero_page []
-    (rw (is-moved frames ram rest frame page left m).long (m.holds.nested.inside page left m.placed))
+pub zeros-moved : (frames one : List (List ℕ)) (ram : ℕ) (rest : List Frame) (frame : Frame) (page : ℕ) (left : Frame)
+    → CanMove frames one ram rest frame page left → page_at (moved one left) left.0 ≡ zero_page
+zeros-moved frames one ram rest frame page left m =
+    get_or-set_same one left.0 zero_page []
+    (rw (is-moved frames one ram rest frame page left m).long (m.holds.nested.inside page left m.placed))
 
 -- a move leads the page to the frame
-pub led-moved : (frames : List (List ℕ)) (ram : ℕ) (rest : List Frame) (frame : Frame) (page : ℕ) (left : Frame)
-    → CanMove frames ram rest frame page left → IsLed frames (moved frames page frame left) ram page frame
-led-moved frames ram rest frame page left m =
-    let one : List (List ℕ) = led_with frames page frame (page_at frames left.0) in
-    let l = is-moved frames ram rest frame page left m in
+pub led-moved : (frames one : List (List ℕ)) (ram : ℕ) (rest : List Frame) (frame : Frame) (page : ℕ) (left : Frame)
+    → CanMove frames one ram rest frame page left → IsLed frames (moved one left) ram page frame
+led-moved frames one ram rest frame page left m =
+    let l = is-moved frames one ram rest frame page left m in
     record {
-      long = long-moved frames ram rest frame page left m;
-      sizes = sizes-set one left.0 zero_page length-zero_page l.sizes;
+      long = long-moved frames one ram rest frame page left m;
+      whole = whole-set one left.0 zero_page length-zero_page l.whole;
       tree = λ free. tree-past (after one ram free) left.0 zero_page free (m.holds.nested.apart page left m.placed) (l.tree free);
-      here = here-moved frames ram rest frame page left m;
-      others = others-moved frames ram rest frame page left m;
+      here = here-moved frames one ram rest frame page left m;
+      others = others-moved frames one ram rest frame page left m;
       kept = λ other f ne e.
           get_or-set_other one left.0 f.0 zero_page []
           (λ z. ne (m.holds.nested.alone other page left (e ∙ ap (λ (g : Frame). Some g) (frame-from_number f left z)) m.placed))
@@ -86,35 +85,35 @@ led-moved frames ram rest frame page left m =
     }
 
 -- and frees the one that it left
-pub left-free : (frames : List (List ℕ)) (ram : ℕ) (rest : List Frame) (frame : Frame) (page : ℕ) (left : Frame) (free : List Frame)
-    → CanMove frames ram rest frame page left → IsFree (after (moved frames page frame left) ram free) left
-left-free frames ram rest frame page left free m = record {
+pub left-free : (frames one : List (List ℕ)) (ram : ℕ) (rest : List Frame) (frame : Frame) (page : ℕ) (left : Frame) (free : List Frame)
+    → CanMove frames one ram rest frame page left → IsFree (after (moved one left) ram free) left
+left-free frames one ram rest frame page left free m = record {
   apart = m.holds.nested.apart page left m.placed;
-  inside = rw (long-moved frames ram rest frame page left m) (m.holds.nested.inside page left m.placed);
+  inside = rw (long-moved frames one ram rest frame page left m) (m.holds.nested.inside page left m.placed);
   unplaced = λ other e. go other e (cases_eq other page);
 } where
-  go : (other : ℕ) → placed_in ram (moved frames page frame left) other ≡ Some left → (other ≡ page) ⊎ (other ≡ page → ⊥) → ⊥
+  go : (other : ℕ) → placed_in ram (moved one left) other ≡ Some left → (other ≡ page) ⊎ (other ≡ page → ⊥) → ⊥
   go other e (inl d) =
       let here : ◌≡◌ {A = Option Frame} (Some frame) (Some left) =
-      sym (here-moved frames ram rest frame page left m) ∙ ap (placed_in ram (moved frames page frame left)) (sym d) ∙ e in
-      left-other frames ram rest frame page left m (sym (unsome frame left here))
+      sym (here-moved frames one ram rest frame page left m) ∙ ap (placed_in ram (moved one left)) (sym d) ∙ e in
+      left-other frames one ram rest frame page left m (sym (unsome frame left here))
   go other e (inr ne) =
-      ne (m.holds.nested.alone other page left (sym (others-moved frames ram rest frame page left m other ne) ∙ e) m.placed)
+      ne (m.holds.nested.alone other page left (sym (others-moved frames one ram rest frame page left m other ne) ∙ e) m.placed)
 
 -- the pool after a move: the frame that was left in place of the one that was taken
-pool-moved : (frames : List (List ℕ)) (ram : ℕ) (rest : List Frame) (frame : Frame) (page : ℕ) (left : Frame)
-    → CanMove frames ram rest frame page left → IsPool (after (moved frames page frame left) ram (rest ++ left ∷ []))
-pool-moved frames ram rest frame page left m = record {
+pool-moved : (frames one : List (List ℕ)) (ram : ℕ) (rest : List Frame) (frame : Frame) (page : ℕ) (left : Frame)
+    → CanMove frames one ram rest frame page left → IsPool (after (moved one left) ram (rest ++ left ∷ []))
+pool-moved frames one ram rest frame page left m = record {
   only = λ i lt. only i lt (cases_lt i (length rest));
   once = λ i j li lj e. once i j li lj e (cases_lt i (length rest)) (cases_lt j (length rest));
   all = λ f free unlisted.
       m.holds.pool.all f (was_free f free unlisted) (λ i lt e. not_listed f free unlisted i lt e (cases_lt i (length rest)));
 } where
   new : List (List ℕ)
-  new = moved frames page frame left
+  new = moved one left
 
   l : IsLed frames new ram page frame
-  l = led-moved frames ram rest frame page left m
+  l = led-moved frames one ram rest frame page left m
 
   last : (i : ℕ) → i < length (rest ++ left ∷ []) → length rest ≤ i → i ≡ length rest
   last i lt le = let more = length_push rest left in omega arith
@@ -137,7 +136,7 @@ pool-moved frames ram rest frame page left m = record {
       })
   only i lt (inr le) =
       subst (λ (f : Frame). IsFree (after new ram (rest ++ left ∷ [])) f) (sym (listed-left i (last i lt le)))
-      (left-free frames ram rest frame page left (rest ++ left ∷ []) m)
+      (left-free frames one ram rest frame page left (rest ++ left ∷ []) m)
 
   not_left : (i : ℕ) → i < length rest → listed rest i ≡ left → ⊥
   not_left i lt e =
@@ -182,26 +181,26 @@ pool-moved frames ram rest frame page left m = record {
       free.unplaced page (l.here ∙ ap (λ (g : Frame). Some g) is)
 
 -- a nest holds after a move
-pub holds-moved : (frames : List (List ℕ)) (ram : ℕ) (rest : List Frame) (frame : Frame) (page : ℕ) (left : Frame)
-    → CanMove frames ram rest frame page left → Holds (after (moved frames page frame left) ram (rest ++ left ∷ []))
-holds-moved frames ram rest frame page left m =
-    numbers-led frames (moved frames page frame left) ram rest frame page (rest ++ left ∷ []) m.holds
-    (led-moved frames ram rest frame page left m) (pool-moved frames ram rest frame page left m)
+pub holds-moved : (frames one : List (List ℕ)) (ram : ℕ) (rest : List Frame) (frame : Frame) (page : ℕ) (left : Frame)
+    → CanMove frames one ram rest frame page left → Holds (after (moved one left) ram (rest ++ left ∷ []))
+holds-moved frames one ram rest frame page left m =
+    numbers-led frames (moved one left) ram rest frame page (rest ++ left ∷ []) m.holds
+    (led-moved frames one ram rest frame page left m) (pool-moved frames one ram rest frame page left m)
 
 -- and the guest's pages stay
-pub contents-moved : (frames : List (List ℕ)) (ram : ℕ) (rest : List Frame) (frame : Frame) (page : ℕ) (left : Frame)
-    → CanMove frames ram rest frame page left → contents_in ram (moved frames page frame left) ≡ contents_in ram frames
-contents-moved frames ram rest frame page left m =
-    contents-led frames (moved frames page frame left) ram rest frame page m.holds (led-moved frames ram rest frame page left m)
-    (get_or-set_other (led_with frames page frame (page_at frames left.0)) left.0 frame.0 zero_page []
-    (λ z. left-other frames ram rest frame page left m (frame-from_number left frame (sym z)))
-    ∙ bytes-led frames ram rest frame page (page_at frames left.0) m.holds m.inside
+pub contents-moved : (frames one : List (List ℕ)) (ram : ℕ) (rest : List Frame) (frame : Frame) (page : ℕ) (left : Frame)
+    → CanMove frames one ram rest frame page left → contents_in ram (moved one left) ≡ contents_in ram frames
+contents-moved frames one ram rest frame page left m =
+    contents-led frames (moved one left) ram rest frame page m.holds (led-moved frames one ram rest frame page left m)
+    (get_or-set_other one left.0 frame.0 zero_page []
+    (λ z. left-other frames one ram rest frame page left m (frame-from_number left frame (sym z)))
+    ∙ bytes-led frames one ram rest frame page (page_at frames left.0) m.holds m.inside m.led
     ∙ ap (page_in frames) (sym m.placed))
 
 -- the frame that the page was placed at is the one that it left
-pub left-free-at : (frames : List (List ℕ)) (ram : ℕ) (rest : List Frame) (frame : Frame) (page : ℕ) (left : Frame) (free : List Frame)
-    → CanMove frames ram rest frame page left → (f : Frame) → placed_in ram frames page ≡ Some f
-    → IsFree (after (moved frames page frame left) ram free) f
-left-free-at frames ram rest frame page left free m f e =
-    subst (λ (g : Frame). IsFree (after (moved frames page frame left) ram free) g) (unsome left f (sym m.placed ∙ e))
-    (left-free frames ram rest frame page left free m)
+pub left-free-at : (frames one : List (List ℕ)) (ram : ℕ) (rest : List Frame) (frame : Frame) (page : ℕ) (left : Frame) (free : List Frame)
+    → CanMove frames one ram rest frame page left → (f : Frame) → placed_in ram frames page ≡ Some f
+    → IsFree (after (moved one left) ram free) f
+left-free-at frames one ram rest frame page left free m f e =
+    subst (λ (g : Frame). IsFree (after (moved one left) ram free) g) (unsome left f (sym m.placed ∙ e))
+    (left-free frames one ram rest frame page left free m)

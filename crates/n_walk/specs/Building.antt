@@ -1,17 +1,25 @@
--- What is written where a nest is built.
-use Rattle.std.specs.Prelude.{ℕ, zero, suc, ◌+◌, List, map}
+-- What is written where a nest is built, and where a page is led to a frame: entries of tables.
+use Rattle.std.specs.Prelude.{◌≡◌, ℕ, ◌+◌, ◌<◌, List, length, map}
 use Rattle.std.specs.List.{range_with_len}
+use Rattle.bn_types.specs.Numbers.{AreWhole, page_at}
 use Rattle.bn_types.specs.declared.frame.Frame.{Frame}
-use Rattle.bn_model.specs.Nesting.{pointer_to, with_entry}
+use Rattle.bn_model.specs.Nesting.{entry_at, pointer_to}
 
--- the frames after the first entries of the middle table lead to low tables
-abbrev pub with_middle : List (List ℕ) → ℕ → List (List ℕ)
-with_middle frames zero = frames
-with_middle frames (suc k) = with_entry (with_middle frames k) 4 k (pointer_to (5 + k))
+-- an entry was written to a table of any level: it is there, and all else is as it was
+pub record IsWritten (old new : List (List ℕ)) (table index entry : ℕ) : Type 0 where
+  pub long : length new ≡ length old
+  pub whole : AreWhole new
+  pub here : entry_at new table index ≡ entry
+  pub others : (t i : ℕ) → i < 512 → (t ≡ table → i ≡ index → ⊥) → entry_at new t i ≡ entry_at old
+      t i
+  pub kept : (f : ℕ) → (f ≡ table → ⊥) → page_at new f ≡ page_at old f
 
--- and entry 2 of the root to the middle table
-abbrev pub with_pointers : List (List ℕ) → ℕ → List (List ℕ)
-with_pointers frames count = with_middle (with_entry frames 0 2 (pointer_to 4)) count
+-- the first entries of the middle table lead to low tables, and all other entries are as they were
+pub record HasMiddle (old new : List (List ℕ)) (count : ℕ) : Type 0 where
+  pub long : length new ≡ length old
+  pub whole : AreWhole new
+  pub middle : (i : ℕ) → i < count → entry_at new 4 i ≡ pointer_to (5 + i)
+  pub others : (t i : ℕ) → i < 512 → (t ≡ 4 → i < count → ⊥) → entry_at new t i ≡ entry_at old t i
 
 -- so many frames, from a number on
 abbrev pub frame_numbered : ℕ → Frame

@@ -1,8 +1,8 @@
 ghost use Rattle.std.specs.Prelude.{◌≡◌, ℕ, ◌+◌, ◌-◌, ◌*◌, ◌/◌, ◌%◌, ◌^◌, ◌<◌, ◌≤◌, ◌↔◌, ◌≢◌, List, None, Some, length, replicate, slice_set, IfOk, OnOk, OnErr, IsOk, IsErr};
 ghost use Rattle.bn_types.specs.Numbers.{AreWhole, bytes_of, number_at, page_at, with_number, zero_page};
 ghost use Rattle.bn_types.specs.declared.frame.Frame.{Frame};
-ghost use Rattle.bn_model.specs.Nesting.{entry_at, low_entry, led, with_entry, pointer_to, low_tables, contents, place, table_frames, words_walked, IsNested, IsFree, NoneFree};
-ghost use Rattle.n_walk.specs.Building.{numbered, with_pointers};
+ghost use Rattle.bn_model.specs.Nesting.{entry_at, leaf_to, low_entry, pointer_to, low_tables, contents, place, table_frames, words_walked, IsNested, IsFree, NoneFree};
+ghost use Rattle.n_walk.specs.Building.{HasMiddle, IsWritten, numbered};
 
 use crate::PoolEmpty;
 use arrayvec::ArrayVec;
@@ -14,8 +14,8 @@ use std::sync::ledger::Ledger;
 /// The page number of guest physical address 0x80000000, where RAM begins.
 const RAM_START: u32 = 0x80000;
 
-/// The machine's frames, with the nested page tables in the first of them and guest pages in others. A frame
-/// is free where it is no table's and no page lies on it.
+/// The machine's frames, with the nested page tables in the first of them and guest pages in
+/// others. A frame is free where it is no table's and no page lies on it.
 #[derive(Drop)]
 pub struct Nest {
     frames: Frames,
@@ -31,12 +31,13 @@ impl Model for Nest {
 
     ghost view = { λ s. record { frames = s.frames; free = s.free.items; ram = s.ram_pages } };
 
-    ghost invariant = { λ s. Holds (record { frames = s.frames; free = s.free.items; ram = s.ram_pages }) };
+    ghost invariant = { λ s. Holds (record
+        { frames = s.frames; free = s.free.items; ram = s.ram_pages }) };
 }
 
 impl Nest {
-    /// The nest of a machine with this many pages of RAM, from 1 to 4,096, over frames of zeros, of which there
-    /// are at most 4,125 and enough for the tables. No page has a frame.
+    /// The nest of a machine with this many pages of RAM, from 1 to 4,096, over frames of zeros, of
+    /// which there are at most 4,125 and enough for the tables. No page has a frame.
     pub fn build(mut frames: Frames, ram_pages: u32) -> Nest
         requires ram { (0 < ram_pages) × (ram_pages ≤ 4096) }
         requires zeros { frames ≡ replicate (length frames) zero_page }
@@ -45,9 +46,11 @@ impl Nest {
         ensures unplaced { (page : ℕ) → place result page ≡ None }
         ensures contents { contents result ≡ replicate ram_pages zero_page }
         ensures free { length result.free + table_frames ram_pages ≡ length frames }
+        ensures frames { length result.frames ≡ length frames }
     {
         let low_tables = ram_pages.div_ceil(512);
-        write_pointers(&mut frames, low_tables);
+        write_entry(&mut frames, Frame(0), 2, pointer(4));
+        write_middle(&mut frames, low_tables);
         let free = frames_from(5 + low_tables, frames.count());
         Nest {
             frames,
@@ -60,15 +63,24 @@ impl Nest {
     pub fn ram_pages(&self) -> u32
         ensures value { result ≡ self.now.ram }
         ensures range { (0 < result) × (result ≤ 4096) }
-        ensures nested { IsNested self.now }
-        ensures whole { AreWhole (contents self.now) }
-        ensures count { length (contents self.now) ≡ result }
     {
         self.ram_pages
     }
 
-    /// The frame of a page, by a walk of the nested tables: three words read for a page in RAM, and none for
-    /// others. None where the page is outside RAM or has no frame.
+    /// What holds of every nest: its tables are the tree of its placement, and each of its pages,
+    /// from 1 to 4,096, has 4,096 bytes. It does nothing.
+    pub fn facts(&self)
+        ensures nested { IsNested self.now }
+        ensures whole { AreWhole (contents self.now) }
+        ensures count { length (contents self.now) ≡ self.now.ram }
+        ensures range { (0 < self.now.ram) × (self.now.ram ≤ 4096) }
+    {
+        // For the prover: reading a field tells what the invariant says of it.
+        let _frames = &self.frames;
+    }
+
+    /// The frame of a page, by a walk of the nested tables: three words read for a page in RAM, and
+    /// none for others. None where the page is outside RAM or has no frame.
     pub fn look<L: Ledger>(&self, page: Gpn, steps: &mut Steps<L>) -> Option<Frame>
         ensures placed { result ≡ place self.now page.0 }
         ensures nested { IsNested self.now }
@@ -91,8 +103,8 @@ impl Nest {
         }
     }
 
-    /// Leads a page of RAM that has no frame to a free frame, which then holds zeros. Refused exactly where
-    /// no frame is free, and nothing changes then.
+    /// Leads a page of RAM that has no frame to a free frame, which then holds zeros. Refused
+    /// exactly where no frame is free, and nothing changes then.
     pub fn map(&mut self, page: Gpn) -> Result<Frame, PoolEmpty>
         requires inside { page.0 < self.old.ram }
         requires unplaced { place self.old page.0 ≡ None }
@@ -104,6 +116,7 @@ impl Nest {
         ensures contents { contents self.new ≡ contents self.old }
         ensures nested { IsNested self.new }
         ensures ram { self.new.ram ≡ self.old.ram }
+        ensures frames { length self.new.frames ≡ length self.old.frames }
         ensures some { 0 < length self.old.free → IsOk result }
         ensures count { OnOk result (length self.new.free + 1 ≡ length self.old.free) }
     {
@@ -115,8 +128,9 @@ impl Nest {
         Ok(fresh)
     }
 
-    /// Moves a page that has a frame to a free one. Its bytes go with it, and the frame that it leaves is free
-    /// and holds zeros. Refused exactly where no frame is free, and nothing changes then.
+    /// Moves a page that has a frame to a free one. Its bytes go with it, and the frame that it
+    /// leaves is free and holds zeros. Refused exactly where no frame is free, and nothing changes
+    /// then.
     pub fn move_page(&mut self, page: Gpn) -> Result<Frame, PoolEmpty>
         requires inside { page.0 < self.old.ram }
         requires placed { place self.old page.0 ≢ None }
@@ -126,13 +140,17 @@ impl Nest {
         ensures placed { IfOk result (λ frame. place self.new page.0 ≡ Some frame) }
         ensures others { (other : ℕ) → other ≢ page.0 → place self.new other ≡ place self.old other }
         ensures contents { contents self.new ≡ contents self.old }
-        ensures left { (frame : Frame) → place self.old page.0 ≡ Some frame → OnOk result (IsFree self.new frame) }
+        ensures left { (frame : Frame) → place self.old page.0 ≡ Some frame → OnOk result
+            (IsFree self.new frame) }
         ensures zeros { (frame : Frame) → place self.old page.0 ≡ Some frame
             → OnOk result (page_at self.new.frames frame.0 ≡ zero_page) }
+        ensures nested { IsNested self.new }
         ensures ram { self.new.ram ≡ self.old.ram }
+        ensures frames { length self.new.frames ≡ length self.old.frames }
         ensures some { 0 < length self.old.free → IsOk result }
         ensures count { length self.new.free ≡ length self.old.free }
     {
+        // For the prover: a length read is the length of the list.
         let _count = self.free.len();
         let Some(target) = self.free.pop() else {
             return Err(PoolEmpty);
@@ -157,7 +175,8 @@ impl Nest {
         self.frames.get(frame, offset, width)
     }
 
-    /// Writes the low bytes of the value to a page's frame at the offset, a multiple of the width below 4,096.
+    /// Writes the low bytes of the value to a page's frame at the offset, a multiple of the width
+    /// below 4,096.
     pub fn store(&mut self, frame: Frame, offset: u16, width: Width, value: u64)
         requires placed { (page : ℕ) × (place self.old page ≡ Some frame) }
         requires aligned { offset % bytes_of width ≡ 0 }
@@ -169,6 +188,7 @@ impl Nest {
         ensures places { (page : ℕ) → place self.new page ≡ place self.old page }
         ensures ram { self.new.ram ≡ self.old.ram }
         ensures free { self.new.free ≡ self.old.free }
+        ensures frames { length self.new.frames ≡ length self.old.frames }
     {
         self.frames.put(frame, offset, width, value);
     }
@@ -182,6 +202,7 @@ impl Nest {
         ensures places { (page : ℕ) → place self.new page ≡ place self.old page }
         ensures ram { self.new.ram ≡ self.old.ram }
         ensures free { self.new.free ≡ self.old.free }
+        ensures frames { length self.new.frames ≡ length self.old.frames }
     {
         self.frames.zero(frame);
     }
@@ -216,24 +237,34 @@ fn leaf_frame(frames: &Frames, page: Gpn) -> Frame
 fn lead(frames: &mut Frames, page: Gpn, frame: Frame)
     requires page { page.0 < 4096 }
     requires table { 5 + page.0 / 512 < length frames.old }
-    ensures { frames.new ≡ led frames.old page.0 frame }
+    requires whole { AreWhole frames.old }
+    ensures { IsWritten frames.old frames.new (5 + page.0 / 512) (page.0 % 512)
+        (leaf_to (Some frame)) }
 {
-    let table = Frame(5 + page.0 / 512);
     let leaf = (u64::from(frame.0) << 10) + 0xDF;
-    frames.put(table, (page.0 % 512 * 8) as u16, Width::B8, leaf);
+    write_entry(frames, Frame(5 + page.0 / 512), page.0 % 512, leaf);
 }
 
-/// Writes the root's pointer to the middle table, and the middle table's pointers to the low tables.
-fn write_pointers(frames: &mut Frames, low_tables: u32)
+/// Writes the middle table's pointers to the low tables.
+fn write_middle(frames: &mut Frames, low_tables: u32)
     requires tables { 4 < length frames.old }
     requires most { low_tables ≤ 512 }
-    ensures written { frames.new ≡ with_pointers frames.old low_tables }
-    ensures count { length frames.new ≡ length frames.old }
+    requires whole { AreWhole frames.old }
+    ensures { HasMiddle frames.old frames.new low_tables }
 {
-    frames.put(Frame(0), 16, Width::B8, pointer(4));
     for index in 0..low_tables {
-        frames.put(Frame(4), (8 * index) as u16, Width::B8, pointer(5 + index));
+        write_entry(frames, Frame(4), index, pointer(5 + index));
     }
+}
+
+/// Writes an entry of a table.
+fn write_entry(frames: &mut Frames, table: Frame, index: u32, entry: u64)
+    requires table { table.0 < length frames.old }
+    requires index { index < 512 }
+    requires whole { AreWhole frames.old }
+    ensures { IsWritten frames.old frames.new table.0 index entry }
+{
+    frames.put(table, (8 * index) as u16, Width::B8, entry);
 }
 
 /// The entry that leads to a table.
@@ -252,6 +283,7 @@ fn frames_from(first: u32, end: u32) -> ArrayVec<Frame, 4125>
 {
     let mut frames = ArrayVec::new();
     for frame in first..end {
+        // For the prover: a length read is the length of the list.
         let _count = frames.len();
         frames.push(Frame(frame));
     }

@@ -1,4 +1,5 @@
--- What a read or a write of a CSR answers, against its definition: Illegal exactly where that is None.
+-- What a read or a write of a CSR answers, against its definition: Illegal exactly where that is
+-- None.
 use Rattle.std.specs.Prelude.{◌≡◌, ℕ, Option, Some, None, Result, Ok, Err}
 use Rattle.rv_csr.specs.declared.illegal.Illegal.{Illegal}
 use Rattle.bn_model.specs.CsrFile.{CsrDone, CsrFile}

@@ -1,5 +1,6 @@
 ghost use Rattle.std.specs.Prelude.{◌≡◌, ◌<◌};
-ghost use Rattle.bn_model.specs.CsrFile.{aligned, flag, interrupt_bits, is_set};
+ghost use Rattle.bn_model.specs.Bits.{flag, is_set};
+ghost use Rattle.bn_model.specs.CsrFile.{interrupt_bits, without_low_bits};
 
 /// Whether the bit at a place below 64 is set.
 pub fn is_set(value: u64, place: u8) -> bool
@@ -18,8 +19,8 @@ pub fn flag(place: u8, set: bool) -> u64
 }
 
 /// The number with bits 1:0 cleared.
-pub fn aligned(value: u64) -> u64
-    ensures { result ≡ aligned value }
+pub fn without_low_bits(value: u64) -> u64
+    ensures { result ≡ without_low_bits value }
 {
     value - value % 4
 }

@@ -1,9 +1,9 @@
 ghost use Rattle.std.specs.Prelude.{◌≡◌, ◌%◌, Some, true};
-ghost use Rattle.bn_model.specs.CsrFile.{HasMode, Sstatus, Sie, Stvec, Satp, csr_of, csr_read, csr_write, csr_written, reset_csrs, sstatus_value, value_if_known, written_if_known};
+ghost use Rattle.bn_model.specs.CsrFile.{HasMode, Sstatus, Sie, Stvec, Satp, csr_of, csr_read, csr_write, reset_csrs, sstatus_value, value_if_known, with_csr, with_csr_if_known};
 ghost use Rattle.bn_model.specs.Trapping.{after_software, after_sret, after_trap, interrupt_if, interrupt_taken, trap_target};
 ghost use Rattle.rv_csr.specs.Outcomes.{ReadsCsr, WritesCsr};
 
-use crate::bits::{aligned, flag, interrupt_bits, is_set};
+use crate::bits::{flag, interrupt_bits, is_set, without_low_bits};
 use crate::{Illegal, Wires};
 use bn_types::{Cause, Mode};
 use std::marker::Model;
@@ -20,8 +20,9 @@ const TIMER: Cause = Cause(INTERRUPT + 5);
 
 const EXTERNAL: Cause = Cause(INTERRUPT + 9);
 
-/// The CSRs of a hart: `sstatus`, `sie`, `stvec`, `sscratch`, `sepc`, `scause`, `stval`, `sip`, `satp`, and
-/// the counters `cycle`, `time` and `instret` (Privileged ISA, "Supervisor CSRs"). There are no others.
+/// The CSRs of a hart: `sstatus`, `sie`, `stvec`, `sscratch`, `sepc`, `scause`, `stval`, `sip`,
+/// `satp`, and the counters `cycle`, `time` and `instret` (Privileged ISA, "Supervisor CSRs").
+/// There are no others.
 #[derive(Clone, Copy, Debug, PartialEq, Eq)]
 pub struct Csrs {
     sie: bool,
@@ -110,7 +111,8 @@ impl Csrs {
         self.ssip = true;
     }
 
-    /// Reads the CSR of a number; `sip` shows `wires`, `cycle` and `time` read `clock` and `instret` reads
+    /// Reads the CSR of a number; `sip` shows `wires`, `cycle` and `time` read `clock` and
+    /// `instret` reads
     /// `retired`. Illegal exactly where no CSR has the number or the mode is U.
     pub fn read(
         &self,
@@ -120,8 +122,8 @@ impl Csrs {
         clock: u64,
         retired: u64,
     ) -> Result<u64, Illegal>
-        ensures { ReadsCsr result
-            (csr_read self.now number mode wires.now.timer wires.now.external clock retired) }
+        ensures { ReadsCsr result (csr_read self.now number mode wires.now
+            (record { clock = clock; retired = retired })) }
     {
         if mode == Mode::U {
             return Err(Illegal);
@@ -136,8 +138,8 @@ impl Csrs {
         clock: u64,
         retired: u64,
     ) -> Result<u64, Illegal>
-        ensures { ReadsCsr result (value_if_known (csr_of number)
-            self.now wires.now.timer wires.now.external clock retired) }
+        ensures { ReadsCsr result (value_if_known (csr_of number) self.now wires.now
+            (record { clock = clock; retired = retired })) }
     {
         match number {
             0x100 => Ok(self.sstatus()),
@@ -170,8 +172,9 @@ impl Csrs {
             + UXL_64
     }
 
-    /// Writes the CSR of a number. Illegal, with nothing changed, exactly where no CSR has the number, the
-    /// mode is U, or the CSR is a counter. A write to `satp` of a MODE other than 0 and 8 has no effect.
+    /// Writes the CSR of a number. Illegal, with nothing changed, exactly where no CSR has the
+    /// number, the mode is U, or the CSR is a counter. A write to `satp` of a MODE other than 0 and
+    /// 8 has no effect.
     pub fn write(&mut self, number: u16, value: u64, mode: Mode) -> Result<(), Illegal>
         ensures { WritesCsr result self.old self.new (csr_write self.old number value mode) }
     {
@@ -183,14 +186,14 @@ impl Csrs {
 
     fn write_known(&mut self, number: u16, value: u64) -> Result<(), Illegal>
         ensures { WritesCsr result self.old self.new
-            (written_if_known (csr_of number) value self.old) }
+            (with_csr_if_known (csr_of number) value self.old) }
     {
         match number {
             0x100 => self.write_sstatus(value),
             0x104 => self.write_sie(value),
             0x105 => self.write_stvec(value),
             0x140 => self.sscratch = value,
-            0x141 => self.sepc = aligned(value),
+            0x141 => self.sepc = without_low_bits(value),
             0x142 => self.scause = value,
             0x143 => self.stval = value,
             0x144 => self.ssip = is_set(value, 1),
@@ -201,7 +204,7 @@ impl Csrs {
     }
 
     fn write_sstatus(&mut self, value: u64)
-        ensures { Some self.new ≡ csr_written Sstatus value self.old }
+        ensures { Some self.new ≡ with_csr Sstatus value self.old }
     {
         self.sie = is_set(value, 1);
         self.spie = is_set(value, 5);
@@ -211,7 +214,7 @@ impl Csrs {
     }
 
     fn write_sie(&mut self, value: u64)
-        ensures { Some self.new ≡ csr_written Sie value self.old }
+        ensures { Some self.new ≡ with_csr Sie value self.old }
     {
         self.ssie = is_set(value, 1);
         self.stie = is_set(value, 5);
@@ -219,14 +222,14 @@ impl Csrs {
     }
 
     fn write_stvec(&mut self, value: u64)
-        ensures { Some self.new ≡ csr_written Stvec value self.old }
+        ensures { Some self.new ≡ with_csr Stvec value self.old }
     {
-        self.stvec_base = aligned(value);
+        self.stvec_base = without_low_bits(value);
         self.stvec_vectored = is_set(value, 0);
     }
 
     fn write_satp(&mut self, value: u64)
-        ensures { Some self.new ≡ csr_written Satp value self.old }
+        ensures { Some self.new ≡ with_csr Satp value self.old }
     {
         let mode = value >> 60;
         if mode == 0 || mode == 8 {
@@ -234,8 +237,10 @@ impl Csrs {
         }
     }
 
-    /// Enters the supervisor's trap handler from a mode at `pc`, a multiple of 4: `sepc`, `scause` and
-    /// `stval` are set, SPP is the mode, SPIE is SIE, and SIE is cleared. Returns the new pc by `stvec`; the
+    /// Enters the supervisor's trap handler from a mode at `pc`, a multiple of 4: `sepc`, `scause`
+    /// and
+    /// `stval` are set, SPP is the mode, SPIE is SIE, and SIE is cleared. Returns the new pc by
+    /// `stvec`; the
     /// new mode is S (Privileged ISA, "Supervisor Trap Vector Base Address Register").
     pub fn enter_trap(&mut self, cause: Cause, pc: u64, value: u64, mode: Mode) -> u64
         requires { pc % 4 ≡ 0 }
@@ -264,8 +269,9 @@ impl Csrs {
         }
     }
 
-    /// Returns from a trap: SIE is SPIE, SPIE is set and SPP is U. Returns `sepc`, a multiple of 4, and the
-    /// mode that SPP was, where the hart goes on (Privileged ISA, "Trap-Return Instructions").
+    /// Returns from a trap: SIE is SPIE, SPIE is set and SPP is U. Returns `sepc`, a multiple of 4,
+    /// and the mode that SPP was, where the hart goes on (Privileged ISA, "Trap-Return
+    /// Instructions").
     pub fn sret(&mut self) -> (u64, Mode)
         ensures state { self.new ≡ after_sret self.old }
         ensures pc { result.0 ≡ self.old.sepc }
@@ -279,11 +285,11 @@ impl Csrs {
         (self.sepc, mode)
     }
 
-    /// The interrupt that a hart in this mode takes before its next instruction: of those that are pending
-    /// and enabled external (9) before software (1) before timer (5). None where there is none, and in mode
-    /// S where SIE is clear (Privileged ISA, "Supervisor Interrupt Registers").
+    /// The interrupt that a hart in this mode takes before its next instruction: of those that are
+    /// pending and enabled external (9) before software (1) before timer (5). None where there is
+    /// none, and in mode S where SIE is clear (Privileged ISA, "Supervisor Interrupt Registers").
     pub fn pending(&self, mode: Mode, wires: &Wires) -> Option<Cause>
-        ensures { result ≡ interrupt_taken self.now mode wires.now.timer wires.now.external }
+        ensures { result ≡ interrupt_taken self.now mode wires.now }
     {
         let taken = match mode {
             Mode::U => true,
@@ -297,7 +303,7 @@ impl Csrs {
     }
 
     fn first_pending(&self, wires: &Wires) -> Option<Cause>
-        ensures { result ≡ interrupt_if true self.now wires.now.timer wires.now.external }
+        ensures { result ≡ interrupt_if true self.now wires.now }
     {
         if wires.external && self.seie {
             Some(EXTERNAL)

@@ -2,9 +2,9 @@
 #![tactic(auto)]
 
 pub use asked::CsrAsked;
+pub use bn_model::Wires;
 pub use csrs::Csrs;
 pub use illegal::Illegal;
-pub use wires::Wires;
 
 mod asked;
 mod bits;
@@ -13,4 +13,3 @@ mod illegal;
 mod operating;
 #[cfg(test)]
 mod tests;
-mod wires;

@@ -9,11 +9,12 @@ use crate::control::{branch, clear_bit_0, is_taken, jump_to};
 use crate::extending::{extend_word, in_64_bits};
 use bn_types::{Act, CsrFrom, CsrOp, Insn, Reg, Regs};
 
-/// What an instruction at `pc` asks of its machine, by the registers before it (Unprivileged ISA, "RV32I
-/// Base Integer Instruction Set", "RV64I Base Integer Instruction Set" and "Zicsr"). A register reads what
-/// stands in `regs.x`, x0 too, where the machine keeps 0. Each field is in the range that `Insn` tells.
-/// A taken jump or branch whose target isn't a multiple of 4 is a trap of cause 0 with the target as its
-/// value, and no other instruction gives a trap: what its place or mode forbids is the machine's to test.
+/// What an instruction at `pc` asks of its machine, by the registers before it (Unprivileged ISA,
+/// "RV32I Base Integer Instruction Set", "RV64I Base Integer Instruction Set" and "Zicsr"). A
+/// register reads what stands in `regs.x`, x0 too, where the machine keeps 0. Each field is in the
+/// range that `Insn` tells. A taken jump or branch whose target isn't a multiple of 4 is a trap of
+/// cause 0 with the target as its value, and no other instruction gives a trap: what its place or
+/// mode forbids is the machine's to test.
 #[tactic(auto, unfolding(bn_model::specs::Acting::act_of))]
 pub fn act(insn: &Insn, regs: &Regs, pc: u64) -> Act
     requires { IsInRange insn.now }

@@ -1,5 +1,5 @@
 ghost use Rattle.std.specs.Prelude.{◌≡◌, ◌<◌};
-ghost use Rattle.bn_model.specs.Acting.{immediate_value, is_less, is_less_unsigned, plus_immediate, register_value, shifted, word_shifted, word_value};
+ghost use Rattle.bn_model.specs.Acting.{immediate_value, one_if_less, one_if_less_unsigned, plus_immediate, register_value, shift_value, word_shift_value, word_value};
 
 use crate::extending::{extend_word, in_64_bits};
 use bn_types::{ImmOp, Op, ShiftOp, WordOp};
@@ -12,13 +12,13 @@ pub fn add_immediate(number: u64, imm: i32) -> u64
 }
 
 fn set_less(left: u64, right: u64) -> u64
-    ensures { result ≡ is_less left right }
+    ensures { result ≡ one_if_less left right }
 {
     u64::from(left.cast_signed() < right.cast_signed())
 }
 
 fn set_less_unsigned(left: u64, right: u64) -> u64
-    ensures { result ≡ is_less_unsigned left right }
+    ensures { result ≡ one_if_less_unsigned left right }
 {
     u64::from(left < right)
 }
@@ -26,7 +26,7 @@ fn set_less_unsigned(left: u64, right: u64) -> u64
 /// A shift of 64 bits by an amount below 64.
 pub fn shift(op: ShiftOp, left: u64, amount: u8) -> u64
     requires { amount < 64 }
-    ensures { result ≡ shifted op left amount }
+    ensures { result ≡ shift_value op left amount }
 {
     match op {
         ShiftOp::Left => left << amount,
@@ -38,7 +38,7 @@ pub fn shift(op: ShiftOp, left: u64, amount: u8) -> u64
 /// A shift of the low 32 bits by an amount below 32, extended by the sign of its result.
 pub fn shift_word(op: ShiftOp, left: u64, amount: u8) -> u64
     requires { amount < 32 }
-    ensures { result ≡ word_shifted op left amount }
+    ensures { result ≡ word_shift_value op left amount }
 {
     let word = (left & 0xffff_ffff) as u32;
     match op {

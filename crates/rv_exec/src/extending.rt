@@ -1,15 +1,16 @@
 ghost use Rattle.std.specs.Prelude.{◌≡◌, true, false};
-ghost use Rattle.std.specs.Int.{w32};
-ghost use Rattle.bn_model.specs.Acting.{extended};
-ghost use Rattle.bn_model.specs.TwosComplement.{in_64_bits, sign_extended};
+ghost use Rattle.bn_model.specs.Acting.{load_value};
+ghost use Rattle.bn_model.specs.TwosComplement.{in_64_bits, sign_extension};
 
 use bn_types::Width;
 
-/// What a load sets: the low bytes of the width that were read from memory, extended by their sign where
-/// the load is signed, by zeros where it isn't (Unprivileged ISA, "Load and Store Instructions"). Bits of
+/// What a load sets: the low bytes of the width that were read from memory, extended by their sign
+/// where
+/// the load is signed, by zeros where it isn't (Unprivileged ISA, "Load and Store Instructions").
+/// Bits of
 /// `raw` above the width are ignored.
 pub fn extend(width: Width, signed: bool, raw: u64) -> u64
-    ensures { result ≡ extended width signed raw }
+    ensures { result ≡ load_value width signed raw }
 {
     if signed {
         extend_sign(width, raw)
@@ -19,7 +20,7 @@ pub fn extend(width: Width, signed: bool, raw: u64) -> u64
 }
 
 fn extend_sign(width: Width, raw: u64) -> u64
-    ensures { result ≡ extended width true raw }
+    ensures { result ≡ load_value width true raw }
 {
     match width {
         Width::B1 => in_64_bits(i64::from(((raw & 0xff) as u8).cast_signed())),
@@ -30,7 +31,7 @@ fn extend_sign(width: Width, raw: u64) -> u64
 }
 
 fn low_bytes(width: Width, raw: u64) -> u64
-    ensures { result ≡ extended width false raw }
+    ensures { result ≡ load_value width false raw }
 {
     match width {
         Width::B1 => raw & 0xff,
@@ -49,7 +50,7 @@ pub fn in_64_bits(number: i64) -> u64
 
 /// The low 32 bits, extended by their sign.
 pub fn extend_word(number: u64) -> u64
-    ensures { result ≡ sign_extended w32 number }
+    ensures { result ≡ sign_extension 32 number }
 {
     in_64_bits(i64::from(((number & 0xffff_ffff) as u32).cast_signed()))
 }

@@ -58,12 +58,13 @@ fn by_opcode(word: u32) -> Option<Insn>
     }
 }
 
-/// The instruction of a word (Unprivileged ISA, "RV32/64G Instruction Set Listings"; Privileged ISA,
-/// "RISC-V Privileged Instruction Set Listings").
+/// The instruction of a word (Unprivileged ISA, "RV32/64G Instruction Set Listings"; Privileged
+/// ISA, "RISC-V Privileged Instruction Set Listings").
 ///
-/// None exactly where the word is no instruction of RV64I, Zicsr, the supervisor level or the secure
-/// extension. Each instruction has one word alone: bits that the manuals reserve must be zero, but those
-/// of FENCE, which are kept in its fields. The fields of the result are in the ranges that `Insn` names.
+/// None exactly where the word is no instruction of RV64I, Zicsr, the supervisor level or the
+/// secure extension. Each instruction has one word alone: bits that the manuals reserve must be
+/// zero, but those of FENCE, which are kept in its fields. The fields of the result are in the
+/// ranges that `Insn` names.
 pub fn decode(word: u32) -> Option<Insn>
     ensures exact { result ≡ insn_of word }
     ensures listed { IfSome result (Encodes word) }

@@ -96,8 +96,9 @@ fn by_insn(insn: &Insn) -> u32
     }
 }
 
-/// The word of an instruction (Unprivileged ISA, "RV32/64G Instruction Set Listings"; Privileged ISA,
-/// "RISC-V Privileged Instruction Set Listings"), whose fields must be in the ranges that `Insn` names.
+/// The word of an instruction (Unprivileged ISA, "RV32/64G Instruction Set Listings"; Privileged
+/// ISA, "RISC-V Privileged Instruction Set Listings"), whose fields must be in the ranges that
+/// `Insn` names.
 ///
 /// `decode` gives that instruction for this word, and for no other.
 pub fn encode(insn: &Insn) -> u32

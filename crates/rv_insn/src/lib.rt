@@ -1,6 +1,6 @@
-//! The instructions of RV64I, Zicsr, the supervisor level and the secure extension: from words of 32 bits
-//! and to words. The formats (Unprivileged ISA, "Base Instruction Formats" and "Immediate Encoding
-//! Variants"), from bit 31 to bit 0:
+//! The instructions of RV64I, Zicsr, the supervisor level and the secure extension: from words of
+//! 32 bits and to words. The formats (Unprivileged ISA, "Base Instruction Formats" and "Immediate
+//! Encoding Variants"), from bit 31 to bit 0:
 //!
 //! ```text
 //! R  funct7[6:0]       rs2[4:0]  rs1[4:0]  funct3[2:0]  rd[4:0]           opcode[6:0]
@@ -11,8 +11,8 @@
 //! J  imm[20] imm[10:1] imm[11] imm[19:12]               rd[4:0]           opcode[6:0]
 //! ```
 //!
-//! The secure instructions have opcode custom-0 and format R; a field that one of them doesn't name is
-//! zero:
+//! The secure instructions have opcode custom-0 and format R; a field that one of them doesn't name
+//! is zero:
 //!
 //! ```text
 //! Launch   funct7 0  funct3 000  rd, rs1 = at

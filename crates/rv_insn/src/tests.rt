@@ -1,5 +1,5 @@
-//! Words that GNU as 2.40 made, with their instructions (the secure ones by its `.insn r`), and words that
-//! are no instruction.
+//! Words that GNU as 2.40 made, with their instructions (the secure ones by its `.insn r`), and
+//! words that are no instruction.
 use super::{decode, encode};
 use bn_types::{CsrFrom, CsrOp, ImmOp, Insn, Op, Reg, Secure, ShiftOp, Test, Width, WordOp};
 

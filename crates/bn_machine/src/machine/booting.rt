@@ -4,6 +4,7 @@ ghost use Rattle.bn_types.specs.Numbers.{page_at, zero_page};
 ghost use Rattle.bn_model.specs.Nesting.{contents, place, table_frames};
 ghost use Rattle.bn_model.specs.Opening as flat;
 ghost use Rattle.bn_model.specs.Standing.{StandsFor};
+ghost use Rattle.bn_machine.specs.Loads.{opening_of};
 ghost use Rattle.bn_unit.specs.Memory.{AllPlaced};
 
 use crate::hart::Hart;
@@ -27,9 +28,13 @@ impl Machine {
         requires whole { length image.now.bytes.items ≡ 4096 * settings.ram_pages }
         requires entry { image.now.entry % 4 ≡ 0 }
         ensures opens { IfOk result (λ machine. machine.state
-            ≡ flat.opening settings.ram_pages settings.harts image.now.bytes.items image.now.entry) }
+            ≡ opening_of settings image.now) }
         ensures stands { IfOk result (λ machine. StandsFor machine.parts
-            (flat.opening settings.ram_pages settings.harts image.now.bytes.items image.now.entry)) }
+            (opening_of settings image.now)) }
+        // Each page has a frame. Beside them are the tables' frames and 16 to spare.
+        ensures placed { IfOk result (λ machine. AllPlaced machine.parts.nest) }
+        ensures frames { IfOk result (λ machine. length machine.parts.nest.frames
+            ≡ table_frames settings.ram_pages + settings.ram_pages + 16) }
     {
         let frames = Frames::zeroed(alloc, count_frames(settings.ram_pages))?;
         let nest = place_image(frames, settings.ram_pages, &image.bytes);
@@ -43,15 +48,21 @@ impl Machine {
 
 /// The machine of a unit and harts that has made no event.
 fn assemble(unit: Unit, harts: Vec<Hart>) -> Machine
+    requires { 0 < length harts.items }
     ensures nest { result.parts.nest ≡ unit.nest }
     ensures state { result.state ≡ record {
       pages = contents unit.nest;
       harts = harts.items;
+      rows = [];
+      records = [];
+      keys = [];
+      next = 1;
       clock = 0;
       off = false;
     } }
 {
-    let _pages = unit.ram_pages();
+    // For the prover: what holds of every unit.
+    unit.facts();
     Machine {
         unit,
         harts,
@@ -72,7 +83,8 @@ fn count_frames(ram_pages: u32) -> u32
 fn start_harts(alloc: Global, count: u8, entry: u64) -> Result<Vec<Hart>, NoMemory>
     requires some { 0 < count }
     requires aligned { entry % 4 ≡ 0 }
-    ensures { IfOk result (λ harts. harts.items ≡ flat.opening_harts count entry) }
+    ensures harts { IfOk result (λ harts. harts.items ≡ flat.opening_harts count entry) }
+    ensures some { IfOk result (λ harts. 0 < length harts.items) }
 {
     let mut harts = Vec::new(alloc);
     push_hart(&mut harts, Hart::started(entry))?;
@@ -98,7 +110,7 @@ fn place_image(frames: Frames, ram_pages: u32, bytes: &[u8]) -> Nest
     requires size { length bytes.now ≡ 4096 * ram_pages }
     ensures contents { contents result ≡ flat.pages_of ram_pages bytes.now }
     ensures ram { result.ram ≡ ram_pages }
-    ensures spare { 0 < length result.free }
+    ensures frames { length result.frames ≡ table_frames ram_pages + ram_pages + 16 }
     ensures placed { AllPlaced result }
 {
     let mut nest = Nest::build(frames, ram_pages);
@@ -120,6 +132,7 @@ fn place_page(nest: &mut Nest, page: Gpn) -> Frame
     ensures others { (other : ℕ) → other ≢ page.0 → place nest.new other ≡ place nest.old other }
     ensures contents { contents nest.new ≡ contents nest.old }
     ensures ram { nest.new.ram ≡ nest.old.ram }
+    ensures frames { length nest.new.frames ≡ length nest.old.frames }
     ensures count { length nest.new.free + 1 ≡ length nest.old.free }
 {
     match nest.map(page) {
@@ -138,6 +151,7 @@ fn fill_page(nest: &mut Nest, page: Gpn, frame: Frame, bytes: &[u8])
     ensures places { (other : ℕ) → place nest.new other ≡ place nest.old other }
     ensures ram { nest.new.ram ≡ nest.old.ram }
     ensures free { nest.new.free ≡ nest.old.free }
+    ensures frames { length nest.new.frames ≡ length nest.old.frames }
 {
     for offset in 0..4096u16 {
         nest.store(frame, offset, Width::B1, u64::from(bytes[offset as usize]));

@@ -1,9 +1,9 @@
 //! ECALL: traps from mode U, calls to the hypervisor from mode S.
-ghost use Rattle.std.specs.Prelude.{◌≡◌, ◌-◌, ◌^◌, ◌<◌, ◌↔◌, [], IsOk, IsTrue, length, slice_index};
-ghost use Rattle.bn_model.specs.Hypervisor.{call_of, decision_of_ecall};
-ghost use Rattle.bn_model.specs.Spelling.{text_of};
-ghost use Rattle.bn_model.specs.State.{hart_at};
-ghost use Rattle.bn_model.specs.Stepping as flat;
+ghost use Rattle.std.specs.Prelude.{◌≡◌, ◌-◌, ◌^◌, ◌<◌, [], length, map, slice_index};
+ghost use Rattle.bn_model.specs.Deciding.{decision_of_ask, decision_of_ecall, is_started};
+ghost use Rattle.bn_model.specs.Hypervisor.{ask_by, call_of};
+ghost use Rattle.bn_machine.specs.Making.{Makes};
+ghost use Rattle.bn_machine.specs.Outside.{hart_outside};
 
 use crate::machine::Machine;
 use crate::{LineBuf, Unbuilt};
@@ -28,13 +28,14 @@ const SEND_IPI: u64 = 0x735049;
 
 impl Machine {
     /// ECALL of hart h.
+    #[tactic(auto, unfolding(bn_model::specs::Hypervisor::ask_of))]
     pub(super) fn call_environment(&mut self, h: u8, lines: &mut LineBuf) -> Result<(), Unbuilt>
         requires hart { h < length self.old.state.harts }
         requires clock { self.old.state.clock < 2 ^ 64 - 1 }
         requires empty { lines.old ≡ [] }
-        ensures built { IsOk result ↔ IsTrue (flat.is_built_turn (decision_of_ecall (hart_at self.old.state h).mode (hart_at self.old.state h).regs)) }
-        ensures stepped { self.new.state ≡ flat.after_turn self.old.state h (decision_of_ecall (hart_at self.old.state h).mode (hart_at self.old.state h).regs) }
-        ensures told { lines.new ≡ text_of (flat.lines_of_turn self.old.state h (decision_of_ecall (hart_at self.old.state h).mode (hart_at self.old.state h).regs)) }
+        ensures made { let s = self.old.state in let hart = hart_outside s h in
+            Makes result self.old.state self.new.state lines.new h
+            (decision_of_ecall s hart hart.mode) }
     {
         let hart = &self.harts[h as usize];
         match hart.mode() {
@@ -43,37 +44,34 @@ impl Machine {
                 Ok(())
             }
             Mode::S => {
-                let (number, a0) = number_and_argument(hart.regs());
-                self.call_hypervisor(h, number, a0, lines)
+                let call = call_in(hart.regs());
+                self.call_hypervisor(h, &call, lines)
             }
         }
     }
 
     /// The call of a number, with this in a0.
-    fn call_hypervisor(
-        &mut self,
-        h: u8,
-        number: u64,
-        a0: u64,
-        lines: &mut LineBuf,
-    ) -> Result<(), Unbuilt>
+    #[tactic(auto, unfolding(bn_model::specs::Hypervisor::call_of))]
+    fn call_hypervisor(&mut self, h: u8, call: &Call, lines: &mut LineBuf) -> Result<(), Unbuilt>
         requires hart { h < length self.old.state.harts }
         requires clock { self.old.state.clock < 2 ^ 64 - 1 }
         requires empty { lines.old ≡ [] }
-        ensures built { IsOk result ↔ IsTrue (flat.is_built_turn (call_of number a0)) }
-        ensures stepped { self.new.state ≡ flat.after_turn self.old.state h (call_of number a0) }
-        ensures told { lines.new ≡ text_of (flat.lines_of_turn self.old.state h (call_of number a0)) }
+        ensures made { let s = self.old.state in
+            let asked = ask_by (call_of call.now.extension call.now.function)
+            (length s.harts) (map is_started s.harts) call.now.a0 call.now.a1 call.now.a2 in
+            Makes result self.old.state self.new.state lines.new h (decision_of_ask asked s.keys) }
     {
-        match number {
+        match call.extension {
             CONSOLE_PUTCHAR => {
-                self.put(h, (a0 & 0xff) as u8, lines);
+                self.put(h, (call.a0 & 0xff) as u8, lines);
                 Ok(())
             }
             SHUTDOWN => {
                 self.shut_down(h);
                 Ok(())
             }
-            SET_TIMER | CONSOLE_GETCHAR | HART_STATE_MANAGEMENT | SEND_IPI => Err(Unbuilt),
+            SET_TIMER | CONSOLE_GETCHAR => Err(Unbuilt),
+            HART_STATE_MANAGEMENT | SEND_IPI if call.function == 0 => Err(Unbuilt),
             _ => {
                 self.answer(h, NOT_SUPPORTED);
                 Ok(())
@@ -82,11 +80,31 @@ impl Machine {
     }
 }
 
-/// A call's number, from a7, and its first argument, from a0 (RISC-V calling conventions, "Integer Register
-/// Convention").
-fn number_and_argument(regs: &Regs) -> (u64, u64)
-    ensures number { result.0 ≡ slice_index regs.now.x 17 }
-    ensures argument { result.1 ≡ slice_index regs.now.x 10 }
+/// A call to the hypervisor, as it stands in the registers (RISC-V calling conventions, "Integer
+/// Register Convention").
+#[derive(Clone, Copy, Debug)]
+struct Call {
+    /// From a7.
+    extension: u64,
+    /// From a6.
+    function: u64,
+    a0: u64,
+    a1: u64,
+    a2: u64,
+}
+
+fn call_in(regs: &Regs) -> Call
+    ensures extension { result.extension ≡ slice_index regs.now.x 17 }
+    ensures function { result.function ≡ slice_index regs.now.x 16 }
+    ensures a0 { result.a0 ≡ slice_index regs.now.x 10 }
+    ensures a1 { result.a1 ≡ slice_index regs.now.x 11 }
+    ensures a2 { result.a2 ≡ slice_index regs.now.x 12 }
 {
-    (regs.x[17], regs.x[10])
+    Call {
+        extension: regs.x[17],
+        function: regs.x[16],
+        a0: regs.x[10],
+        a1: regs.x[11],
+        a2: regs.x[12],
+    }
 }

@@ -1,24 +1,25 @@
 //! What instructions ask for, carried out or trapped.
-ghost use Rattle.std.specs.Prelude.{◌≡◌, ◌+◌, ◌-◌, ◌^◌, ◌<◌, ◌≤◌, ◌↔◌, [], IsOk, IsTrue, length};
+ghost use Rattle.std.specs.Prelude.{◌≡◌, ◌+◌, ◌-◌, ◌^◌, ◌<◌, ◌≤◌, false, [], length};
 ghost use Rattle.bn_types.specs.Numbers.{bytes_of};
-ghost use Rattle.bn_model.specs.Accessing.{access, loaded};
+ghost use Rattle.bn_model.specs.Accessing.{access, answer_of_load};
 ghost use Rattle.bn_model.specs.CsrFile.{csr_done};
-ghost use Rattle.bn_model.specs.Deciding.{decision_of_act, decision_of_csr, decision_of_load, decision_of_store};
+ghost use Rattle.bn_model.specs.Deciding.{counters_of, decision_of_csr, decision_of_fault, decision_of_load, decision_of_secure, decision_of_store};
 ghost use Rattle.bn_model.specs.Decision as turn;
-ghost use Rattle.bn_model.specs.InsnRanges.{IsActInRange};
-ghost use Rattle.bn_model.specs.Interrupts.{external_pending, timer_pending};
-ghost use Rattle.bn_model.specs.Legality as flat_legality;
-ghost use Rattle.bn_model.specs.Spelling.{text_of};
-ghost use Rattle.bn_model.specs.State.{asker, hart_at};
+ghost use Rattle.bn_model.specs.Decision.{Decision};
 ghost use Rattle.bn_model.specs.Stepping as flat;
+ghost use Rattle.bn_model.specs.InsnRanges.{IsActInRange};
+ghost use Rattle.bn_model.specs.Interrupts.{wires_of};
+ghost use Rattle.bn_model.specs.Legality as flat_legality;
+ghost use Rattle.bn_model.specs.State.{asker, memory};
+ghost use Rattle.bn_machine.specs.Making.{IsMade, Makes, MakesAct};
+ghost use Rattle.bn_machine.specs.Outside.{hart_outside};
 ghost use Rattle.bn_machine.specs.Within.{JumpsAligned};
 ghost use Rattle.rv_csr.specs.Outcomes.{DoesCsr};
 
-use crate::legality::is_legal;
 use crate::machine::Machine;
 use crate::machine::turning::ILLEGAL_INSTRUCTION;
 use crate::{LineBuf, Unbuilt};
-use bn_types::{Act, Cause, Kind, Mode, Reg, Secure, Steps, Width};
+use bn_types::{Act, Cause, Fault, Kind, Mode, Reg, Secure, Steps, Width};
 use rv_csr::{CsrAsked, Csrs, Illegal};
 use rv_exec::extend;
 use std::sync::ledger::Ledger;
@@ -39,9 +40,7 @@ impl Machine {
         requires range { IsActInRange act }
         requires aligned { JumpsAligned act }
         requires empty { lines.old ≡ [] }
-        ensures built { IsOk result ↔ IsTrue (flat.is_built_turn (decision_of_act self.old.state h (hart_at self.old.state h) act)) }
-        ensures stepped { self.new.state ≡ flat.after_turn self.old.state h (decision_of_act self.old.state h (hart_at self.old.state h) act) }
-        ensures told { lines.new ≡ text_of (flat.lines_of_turn self.old.state h (decision_of_act self.old.state h (hart_at self.old.state h) act)) }
+        ensures made { MakesAct result self.old.state self.new.state lines.new h act }
         ensures few { steps.new ≤ steps.old + 15 }
     {
         match act {
@@ -123,13 +122,15 @@ impl Machine {
         requires clock { self.old.state.clock < 2 ^ 64 - 1 }
         requires register { rd.0 < 32 }
         requires empty { lines.old ≡ [] }
-        ensures stepped { self.new.state ≡ flat.after_turn self.old.state h (decision_of_load width signed rd (loaded self.old.state.pages width (access self.old.state.pages (asker h (hart_at self.old.state h)) Kind.Load va width))) }
-        ensures told { lines.new ≡ text_of (flat.lines_of_turn self.old.state h (decision_of_load width signed rd (loaded self.old.state.pages width (access self.old.state.pages (asker h (hart_at self.old.state h)) Kind.Load va width)))) }
+        ensures made { let s = self.old.state in
+            let reached = access (memory s) (asker h (hart_outside s h)) Kind.Load va width in
+            IsMade s self.new.state lines.new h
+            (decision_of_load width signed rd (answer_of_load s.pages width reached)) }
         ensures few { steps.new ≤ steps.old + 15 }
     {
         match self.load_number(h, va, width, steps) {
             Ok(number) => self.set(h, rd, extend(width, signed, number)),
-            Err(fault) => self.trap(h, fault.cause, fault.va, lines),
+            Err(fault) => self.fail(h, Kind::Load, &fault, lines),
         }
     }
 
@@ -145,13 +146,28 @@ impl Machine {
         requires hart { h < length self.old.state.harts }
         requires clock { self.old.state.clock < 2 ^ 64 - 1 }
         requires empty { lines.old ≡ [] }
-        ensures stepped { self.new.state ≡ flat.after_turn self.old.state h (decision_of_store width value (access self.old.state.pages (asker h (hart_at self.old.state h)) Kind.Store va width)) }
-        ensures told { lines.new ≡ text_of (flat.lines_of_turn self.old.state h (decision_of_store width value (access self.old.state.pages (asker h (hart_at self.old.state h)) Kind.Store va width))) }
+        ensures made { let s = self.old.state in
+            let reached = access (memory s) (asker h (hart_outside s h)) Kind.Store va width in
+            IsMade s self.new.state lines.new h (decision_of_store width value reached) }
         ensures few { steps.new ≤ steps.old + 15 }
     {
         match self.store_number(h, va, width, value, steps) {
             Ok(()) => self.go_on(h),
-            Err(fault) => self.trap(h, fault.cause, fault.va, lines),
+            Err(fault) => self.fail(h, Kind::Store, &fault, lines),
+        }
+    }
+
+    /// Takes the trap of an access of a kind that failed.
+    pub(super) fn fail(&mut self, h: u8, kind: Kind, fault: &Fault, lines: &mut LineBuf)
+        requires hart { h < length self.old.state.harts }
+        requires clock { self.old.state.clock < 2 ^ 64 - 1 }
+        requires empty { lines.old ≡ [] }
+        ensures made { IsMade self.old.state self.new.state lines.new h
+            (decision_of_fault kind fault.now) }
+    {
+        match fault.denied {
+            None => self.trap(h, fault.cause, fault.va, lines),
+            Some(_) => self.deny(h, kind, fault.va, lines),
         }
     }
 
@@ -160,8 +176,9 @@ impl Machine {
         requires clock { self.old.state.clock < 2 ^ 64 - 1 }
         requires register { rd.0 < 32 }
         requires empty { lines.old ≡ [] }
-        ensures stepped { self.new.state ≡ flat.after_turn self.old.state h (decision_of_csr self.old.state h (hart_at self.old.state h) asked.now.op asked.now.number asked.now.operand asked.now.reads asked.now.writes rd) }
-        ensures told { lines.new ≡ text_of (flat.lines_of_turn self.old.state h (decision_of_csr self.old.state h (hart_at self.old.state h) asked.now.op asked.now.number asked.now.operand asked.now.reads asked.now.writes rd)) }
+        ensures made { let s = self.old.state in IsMade s self.new.state lines.new h
+            (decision_of_csr s h (hart_outside s h) asked.now.op asked.now.number asked.now.operand
+            asked.now.reads asked.now.writes rd) }
     {
         let mut csrs = *self.harts[h as usize].csrs();
         match self.operate(h, &mut csrs, asked) {
@@ -173,9 +190,11 @@ impl Machine {
     /// A CSR instruction of hart h on a copy of its CSRs.
     fn operate(&self, h: u8, csrs: &mut Csrs, asked: &CsrAsked) -> Result<u64, Illegal>
         requires { h < length self.now.state.harts }
-        ensures { let s = self.now.state in let hart = hart_at s h in DoesCsr result csrs.old csrs.new
-            (csr_done csrs.old asked.now.op asked.now.number asked.now.operand asked.now.reads asked.now.writes
-            hart.mode (timer_pending s hart) (external_pending s h) s.clock hart.retired) }
+        ensures { let s = self.now.state in let hart = hart_outside s h in DoesCsr result csrs.old
+            csrs.new
+            (csr_done csrs.old asked.now.op asked.now.number asked.now.operand asked.now.reads
+            asked.now.writes
+            hart.mode (wires_of s h hart) (counters_of s hart)) }
     {
         let hart = &self.harts[h as usize];
         csrs.operate(
@@ -192,8 +211,8 @@ impl Machine {
         requires hart { h < length self.old.state.harts }
         requires clock { self.old.state.clock < 2 ^ 64 - 1 }
         requires empty { lines.old ≡ [] }
-        ensures stepped { self.new.state ≡ flat.after_turn self.old.state h (flat_legality.supervisor_only (hart_at self.old.state h).mode turn.Return) }
-        ensures told { lines.new ≡ text_of (flat.lines_of_turn self.old.state h (flat_legality.supervisor_only (hart_at self.old.state h).mode turn.Return)) }
+        ensures made { let s = self.old.state in IsMade s self.new.state lines.new h
+            (flat_legality.supervisor_only (hart_outside s h).mode turn.ReturnFromTrap) }
     {
         match self.harts[h as usize].mode() {
             Mode::S => self.return_from_trap(h),
@@ -206,8 +225,8 @@ impl Machine {
         requires hart { h < length self.old.state.harts }
         requires clock { self.old.state.clock < 2 ^ 64 - 1 }
         requires empty { lines.old ≡ [] }
-        ensures stepped { self.new.state ≡ flat.after_turn self.old.state h (flat_legality.supervisor_only (hart_at self.old.state h).mode turn.Next) }
-        ensures told { lines.new ≡ text_of (flat.lines_of_turn self.old.state h (flat_legality.supervisor_only (hart_at self.old.state h).mode turn.Next)) }
+        ensures made { let s = self.old.state in IsMade s self.new.state lines.new h
+            (flat_legality.supervisor_only (hart_outside s h).mode turn.Next) }
     {
         match self.harts[h as usize].mode() {
             Mode::S => self.go_on(h),
@@ -225,14 +244,35 @@ impl Machine {
         requires hart { h < length self.old.state.harts }
         requires clock { self.old.state.clock < 2 ^ 64 - 1 }
         requires empty { lines.old ≡ [] }
-        ensures built { IsOk result ↔ IsTrue (flat.is_built_turn (flat_legality.secure_if_legal (flat_legality.is_legal secure.now (hart_at self.old.state h).mode))) }
-        ensures stepped { self.new.state ≡ flat.after_turn self.old.state h (flat_legality.secure_if_legal (flat_legality.is_legal secure.now (hart_at self.old.state h).mode)) }
-        ensures told { lines.new ≡ text_of (flat.lines_of_turn self.old.state h (flat_legality.secure_if_legal (flat_legality.is_legal secure.now (hart_at self.old.state h).mode))) }
+        ensures made { let s = self.old.state in Makes result self.old.state self.new.state
+            lines.new h
+            (decision_of_secure s (hart_outside s h) secure.now) }
     {
-        if is_legal(secure, self.harts[h as usize].mode()) {
-            return Err(Unbuilt);
+        match secure {
+            Secure::Launch { .. } | Secure::Evict { .. } => self.refuse_user(h, lines),
+            Secure::Call { .. } | Secure::Ident { .. } => Err(Unbuilt),
+            _ => {
+                self.trap(h, ILLEGAL_INSTRUCTION, 0, lines);
+                Ok(())
+            }
         }
-        self.trap(h, ILLEGAL_INSTRUCTION, 0, lines);
-        Ok(())
+    }
+
+    /// What mode S alone may ask for isn't built yet.
+    fn refuse_user(&mut self, h: u8, lines: &mut LineBuf) -> Result<(), Unbuilt>
+        requires hart { h < length self.old.state.harts }
+        requires clock { self.old.state.clock < 2 ^ 64 - 1 }
+        requires empty { lines.old ≡ [] }
+        ensures made { (d : Decision) → flat.is_built_turn d ≡ false →
+            Makes result self.old.state self.new.state lines.new h
+            (flat_legality.supervisor_only (hart_outside self.old.state h).mode d) }
+    {
+        match self.harts[h as usize].mode() {
+            Mode::S => Err(Unbuilt),
+            Mode::U => {
+                self.trap(h, ILLEGAL_INSTRUCTION, 0, lines);
+                Ok(())
+            }
+        }
     }
 }

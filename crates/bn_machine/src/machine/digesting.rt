@@ -12,8 +12,8 @@ use sha2::{Digest as Hash, Sha256};
 use std::sync::ledger::Ledger;
 
 impl Machine {
-    /// SHA-256 (FIPS 180-4) of the contents of all guest pages that no module owns, in ascending order. Each
-    /// page costs three steps.
+    /// SHA-256 (FIPS 180-4) of the contents of all guest pages that no module owns, in ascending
+    /// order. Each page costs three steps.
     #[tactic(auto, unfolding(bn_model::specs::Reporting::public_digest))]
     pub fn public_digest<L: Ledger>(&self, steps: &mut Steps<L>) -> Digest
         ensures digest { result ≡ flat.public_digest self.now.state }

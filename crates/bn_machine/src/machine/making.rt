@@ -1,18 +1,18 @@
 //! What turns come to, made: each of these ends an event.
 ghost use Rattle.std.specs.Prelude.{◌≡◌, ◌-◌, ◌^◌, ◌<◌, ◌%◌, [], length};
 ghost use Rattle.bn_model.specs.Decision as turn;
-ghost use Rattle.bn_model.specs.Spelling.{text_of};
-ghost use Rattle.bn_model.specs.Stepping as flat;
+ghost use Rattle.bn_model.specs.Walking as walking;
+ghost use Rattle.bn_machine.specs.Making.{state_after, text_after};
 
 use crate::LineBuf;
 use crate::machine::Machine;
-use bn_types::{Cause, Line, Reg};
+use bn_types::{Cause, Kind, Line, ModId, Reg, Vpn};
 use rv_csr::Csrs;
 
 impl Machine {
     pub(super) fn rest(&mut self)
         requires { self.old.state.clock < 2 ^ 64 - 1 }
-        ensures { self.new.state ≡ flat.after_turn self.old.state 0 turn.Rest }
+        ensures { self.new.state ≡ state_after self.old.state 0 turn.Rest }
     {
         self.clock += 1;
     }
@@ -21,8 +21,8 @@ impl Machine {
         requires hart { hart < length self.old.state.harts }
         requires clock { self.old.state.clock < 2 ^ 64 - 1 }
         requires empty { lines.old ≡ [] }
-        ensures stepped { self.new.state ≡ flat.after_turn self.old.state hart (turn.Trap cause value) }
-        ensures told { lines.new ≡ text_of (flat.lines_of_turn self.old.state hart (turn.Trap cause value)) }
+        ensures stepped { self.new.state ≡ state_after self.old.state hart (turn.Trap cause value) }
+        ensures told { lines.new ≡ text_after self.old.state hart (turn.Trap cause value) }
     {
         lines.push(&Line::Trap {
             n: self.clock,
@@ -34,10 +34,36 @@ impl Machine {
         self.clock += 1;
     }
 
+    /// Takes the trap of an access of a kind that the rule of admission denies.
+    pub(super) fn deny(&mut self, hart: u8, kind: Kind, va: u64, lines: &mut LineBuf)
+        requires hart { hart < length self.old.state.harts }
+        requires clock { self.old.state.clock < 2 ^ 64 - 1 }
+        requires empty { lines.old ≡ [] }
+        ensures stepped { self.new.state ≡ state_after self.old.state hart (turn.Deny kind va) }
+        ensures told { lines.new ≡ text_after self.old.state hart (turn.Deny kind va) }
+    {
+        let (cause, pc) = (access_fault(kind), self.harts[hart as usize].pc());
+        lines.push(&Line::Deny {
+            n: self.clock,
+            h: hart,
+            m: ModId(0),
+            w: kind,
+            v: Vpn(va / 4096),
+        });
+        lines.push(&Line::Trap {
+            n: self.clock,
+            h: hart,
+            c: cause.0,
+            p: pc,
+        });
+        self.harts[hart as usize].trap(cause, va);
+        self.clock += 1;
+    }
+
     pub(super) fn go_on(&mut self, hart: u8)
         requires hart { hart < length self.old.state.harts }
         requires clock { self.old.state.clock < 2 ^ 64 - 1 }
-        ensures { self.new.state ≡ flat.after_turn self.old.state hart turn.Next }
+        ensures { self.new.state ≡ state_after self.old.state hart turn.Next }
     {
         self.harts[hart as usize].go_on();
         self.clock += 1;
@@ -47,7 +73,7 @@ impl Machine {
         requires hart { hart < length self.old.state.harts }
         requires clock { self.old.state.clock < 2 ^ 64 - 1 }
         requires register { rd.0 < 32 }
-        ensures { self.new.state ≡ flat.after_turn self.old.state hart (turn.Set rd value) }
+        ensures { self.new.state ≡ state_after self.old.state hart (turn.Set rd value) }
     {
         self.harts[hart as usize].go_on_with(rd, value);
         self.clock += 1;
@@ -58,7 +84,7 @@ impl Machine {
         requires clock { self.old.state.clock < 2 ^ 64 - 1 }
         requires register { rd.0 < 32 }
         requires aligned { target % 4 ≡ 0 }
-        ensures { self.new.state ≡ flat.after_turn self.old.state hart (turn.Jump target rd link) }
+        ensures { self.new.state ≡ state_after self.old.state hart (turn.Jump target rd link) }
     {
         self.harts[hart as usize].jump(target, rd, link);
         self.clock += 1;
@@ -68,7 +94,7 @@ impl Machine {
         requires hart { hart < length self.old.state.harts }
         requires clock { self.old.state.clock < 2 ^ 64 - 1 }
         requires register { rd.0 < 32 }
-        ensures { self.new.state ≡ flat.after_turn self.old.state hart (turn.Csr rd old csrs) }
+        ensures { self.new.state ≡ state_after self.old.state hart (turn.Csr rd old csrs) }
     {
         self.harts[hart as usize].set_csrs(rd, old, csrs);
         self.clock += 1;
@@ -77,7 +103,7 @@ impl Machine {
     pub(super) fn return_from_trap(&mut self, hart: u8)
         requires hart { hart < length self.old.state.harts }
         requires clock { self.old.state.clock < 2 ^ 64 - 1 }
-        ensures { self.new.state ≡ flat.after_turn self.old.state hart turn.Return }
+        ensures { self.new.state ≡ state_after self.old.state hart turn.ReturnFromTrap }
     {
         self.harts[hart as usize].return_from_trap();
         self.clock += 1;
@@ -87,8 +113,8 @@ impl Machine {
         requires hart { hart < length self.old.state.harts }
         requires clock { self.old.state.clock < 2 ^ 64 - 1 }
         requires empty { lines.old ≡ [] }
-        ensures stepped { self.new.state ≡ flat.after_turn self.old.state hart (turn.Put byte) }
-        ensures told { lines.new ≡ text_of (flat.lines_of_turn self.old.state hart (turn.Put byte)) }
+        ensures stepped { self.new.state ≡ state_after self.old.state hart (turn.Put byte) }
+        ensures told { lines.new ≡ text_after self.old.state hart (turn.Put byte) }
     {
         lines.push(&Line::Out {
             n: self.clock,
@@ -102,7 +128,7 @@ impl Machine {
     pub(super) fn answer(&mut self, hart: u8, error: u64)
         requires hart { hart < length self.old.state.harts }
         requires clock { self.old.state.clock < 2 ^ 64 - 1 }
-        ensures { self.new.state ≡ flat.after_turn self.old.state hart (turn.Answer error) }
+        ensures { self.new.state ≡ state_after self.old.state hart (turn.Answer error) }
     {
         self.harts[hart as usize].answer(error);
         self.clock += 1;
@@ -111,10 +137,21 @@ impl Machine {
     pub(super) fn shut_down(&mut self, hart: u8)
         requires hart { hart < length self.old.state.harts }
         requires clock { self.old.state.clock < 2 ^ 64 - 1 }
-        ensures { self.new.state ≡ flat.after_turn self.old.state hart turn.ShutDown }
+        ensures { self.new.state ≡ state_after self.old.state hart turn.ShutDown }
     {
         self.harts[hart as usize].go_on();
         self.off = true;
         self.clock += 1;
+    }
+}
+
+/// The access fault of a kind (Privileged ISA, "Supervisor Cause Register").
+fn access_fault(kind: Kind) -> Cause
+    ensures { result ≡ walking.access_fault kind }
+{
+    match kind {
+        Kind::Fetch => Cause(1),
+        Kind::Load => Cause(5),
+        Kind::Store => Cause(7),
     }
 }

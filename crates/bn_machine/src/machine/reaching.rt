@@ -1,8 +1,9 @@
 //! Accesses of a hart to memory.
-ghost use Rattle.std.specs.Prelude.{◌≡◌, ◌+◌, ◌*◌, ◌^◌, ◌<◌, ◌≤◌, IfOk, length};
+ghost use Rattle.std.specs.Prelude.{◌≡◌, ◌+◌, ◌*◌, ◌^◌, ◌<◌, ◌≤◌, [], IfOk, length};
 ghost use Rattle.bn_types.specs.Numbers.{bytes_of};
-ghost use Rattle.bn_model.specs.Accessing.{access, loaded, stored};
-ghost use Rattle.bn_model.specs.State.{asker, hart_at};
+ghost use Rattle.bn_model.specs.Accessing.{access, answer_of_load, pages_after_store};
+ghost use Rattle.bn_model.specs.State.{asker, memory};
+ghost use Rattle.bn_machine.specs.Outside.{hart_outside};
 ghost use Rattle.bn_unit.specs.Memory.{Completes};
 
 use crate::machine::Machine;
@@ -11,11 +12,14 @@ use std::sync::ledger::Ledger;
 
 impl Machine {
     /// The word at hart h's pc.
+    #[tactic(auto, unfolding(bn_model::specs::Rows::owners))]
     pub(super) fn fetch<L: Ledger>(&mut self, h: u8, steps: &mut Steps<L>) -> Result<u32, Fault>
         requires { h < length self.old.state.harts }
-        ensures word { let s = self.old.state in let hart = hart_at s h in
-            result ≡ loaded s.pages Width.B4 (access s.pages (asker h hart) Kind.Fetch hart.pc Width.B4) }
-        ensures kept { self.new ≡ self.old }
+        ensures word { let s = self.old.state in let hart = hart_outside s h in result
+            ≡ answer_of_load s.pages Width.B4
+            (access (memory s) (asker h hart) Kind.Fetch hart.pc Width.B4) }
+        ensures kept { self.new.state ≡ self.old.state }
+        ensures empty { self.old.state.rows ≡ [] }
         ensures few { steps.new ≤ steps.old + 15 }
     {
         let hart = &self.harts[h as usize];
@@ -24,6 +28,7 @@ impl Machine {
     }
 
     /// The number of a width that hart h loads from a virtual address.
+    #[tactic(auto, unfolding(bn_model::specs::Rows::owners))]
     pub(super) fn load_number<L: Ledger>(
         &mut self,
         h: u8,
@@ -32,10 +37,11 @@ impl Machine {
         steps: &mut Steps<L>,
     ) -> Result<u64, Fault>
         requires { h < length self.old.state.harts }
-        ensures number { let s = self.old.state in
-            result ≡ loaded s.pages width (access s.pages (asker h (hart_at s h)) Kind.Load va width) }
+        ensures number { let s = self.old.state in result
+            ≡ answer_of_load s.pages width
+            (access (memory s) (asker h (hart_outside s h)) Kind.Load va width) }
         ensures fits { IfOk result (λ number. number < 2 ^ (8 * bytes_of width)) }
-        ensures kept { self.new ≡ self.old }
+        ensures kept { self.new.state ≡ self.old.state }
         ensures few { steps.new ≤ steps.old + 15 }
     {
         let who = self.harts[h as usize].asker(h);
@@ -43,6 +49,7 @@ impl Machine {
     }
 
     /// Hart h stores the low bytes of a value to a virtual address.
+    #[tactic(auto, unfolding(bn_model::specs::Rows::owners))]
     pub(super) fn store_number<L: Ledger>(
         &mut self,
         h: u8,
@@ -53,10 +60,10 @@ impl Machine {
     ) -> Result<(), Fault>
         requires { h < length self.old.state.harts }
         ensures answer { let s = self.old.state in
-            Completes result (access s.pages (asker h (hart_at s h)) Kind.Store va width) }
+            Completes result (access (memory s) (asker h (hart_outside s h)) Kind.Store va width) }
         ensures stored { let s = self.old.state in
-            let reached = access s.pages (asker h (hart_at s h)) Kind.Store va width in
-            self.new.state ≡ record s { pages = stored s.pages width value reached } }
+            let reached = access (memory s) (asker h (hart_outside s h)) Kind.Store va width in
+            self.new.state ≡ record s { pages = pages_after_store s.pages width value reached } }
         ensures few { steps.new ≤ steps.old + 15 }
     {
         let who = self.harts[h as usize].asker(h);

@@ -1,7 +1,7 @@
 //! Runs.
-ghost use Rattle.std.specs.Prelude.{◌≡◌, ◌+◌, ◌^◌, ◌<◌, false, length, IfOk, OnErr};
-ghost use Rattle.bn_edge.specs.Counts.{CanCount, CountsRefusals};
-ghost use Rattle.bn_edge.specs.Written.{appended, WritesFront};
+ghost use Rattle.std.specs.Prelude.{◌≡◌, ◌+◌, ◌^◌, ◌<◌, None, false, length, IfOk, OnErr};
+ghost use Rattle.bn_edge.specs.Counts.{CountsRefusals};
+ghost use Rattle.bn_edge.specs.Written.{WritesFront};
 ghost use Rattle.bn_model.specs.Running.{course, turns};
 ghost use Rattle.bn_model.specs.Spelling.{text_of};
 ghost use Rattle.bn_machine.specs.Telling.{FinishesRun, StopsRun};
@@ -16,7 +16,8 @@ use std::sync::ledger::Ledger;
 impl Machine {
     /// Makes turns of hart 0, at most `limit`, and writes their lines.
     ///
-    /// `SinkFailed` comes exactly where writing failed; the machine then stands after the event whose lines
+    /// `SinkFailed` comes exactly where writing failed; the machine then stands after the event
+    /// whose lines
     /// couldn't all be written.
     pub fn run<O: Sink, L: Ledger>(
         &mut self,
@@ -25,18 +26,19 @@ impl Machine {
         steps: &mut Steps<L>,
     ) -> Result<Ending, SinkFailed>
         requires on { self.old.state.off ≡ false }
-        requires harts { 0 < length self.old.state.harts }
         requires clock { self.old.state.clock + limit < 2 ^ 64 }
         ensures finished { IfOk result (λ ending. FinishesRun
-            (course self.old.state (turns limit)) ending self.new.state
-            (O.written out.old) (O.written out.new)) }
-        ensures stopped { OnErr result (StopsRun self.old.state self.new.state limit
-            (O.written out.old) (O.written out.new)) }
-        ensures front { OnErr result (WritesFront (O.written out.old) (O.written out.new)
-            (text_of (course self.old.state (turns limit)).told)) }
-        ensures failed { CanCount (O.faults out.old) →
-            CountsRefusals result (O.faults out.old) (O.faults out.new) }
+            (course None self.old.state (turns limit)) ending self.new.state
+            (O.account out.old) (O.account out.new)) }
+        ensures stopped { OnErr result (StopsRun self.old.state self.new.state (turns limit)
+            (O.account out.old) (O.account out.new)) }
+        ensures front { OnErr result (WritesFront (O.account out.old) (O.account out.new)
+            (text_of (course None self.old.state (turns limit)).told)) }
+        ensures failed { CountsRefusals result
+            (O.account out.old).faults (O.account out.new).faults }
     {
+        // For the prover: hart 0 is there.
+        self.has_harts();
         let mut lines = LineBuf::new();
         for _turn in 0..limit {
             match self.turn(Event::Turn(0), &mut lines, steps) {
@@ -49,5 +51,13 @@ impl Machine {
             }
         }
         Ok(Ending::Limit)
+    }
+
+    /// There is a hart.
+    fn has_harts(&self)
+        ensures { 0 < length self.now.state.harts }
+    {
+        // For the prover: reading a field tells what the invariant says of it.
+        let _harts = &self.harts;
     }
 }

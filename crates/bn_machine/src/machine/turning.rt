@@ -1,19 +1,21 @@
 //! Turns.
-ghost use Rattle.std.specs.Prelude.{◌≡◌, ◌+◌, ◌-◌, ◌^◌, ◌<◌, ◌≤◌, ◌%◌, ◌↔◌, [], IsOk, IsTrue, None, Some, false, true, length};
+ghost use Rattle.std.specs.Prelude.{◌≡◌, ◌+◌, ◌-◌, ◌^◌, ◌<◌, ◌≤◌, ◌%◌, ◌↔◌, [], IsOk, IsTrue, None, Some, OnErr, OnOk, false, true, length};
 ghost use Rattle.bn_model.specs.Acting.{act_of};
-ghost use Rattle.bn_model.specs.Deciding.{decision_if_started, decision_of, decision_of_insn, decision_of_interrupt};
+ghost use Rattle.bn_model.specs.Deciding.{asked_if_started, asked_of, asked_of_insn, asked_of_interrupt};
 ghost use Rattle.bn_model.specs.Decoding.{insn_of};
 ghost use Rattle.bn_model.specs.InsnRanges.{IsActInRange, IsInRange};
-ghost use Rattle.bn_model.specs.Interrupts.{external_pending, interrupt_of, timer_pending};
+ghost use Rattle.bn_model.specs.Interrupts.{interrupt_of, wires_of};
 ghost use Rattle.bn_model.specs.Spelling.{text_of};
 ghost use Rattle.bn_model.specs.Standing.{StandsFor};
 ghost use Rattle.bn_model.specs.State.{hart_at};
 ghost use Rattle.bn_model.specs.Stepping as flat;
-ghost use Rattle.bn_machine.specs.Within.{Fits, JumpsAligned};
+ghost use Rattle.bn_machine.specs.Making.{MakesAsked, MakesTurn};
+ghost use Rattle.bn_machine.specs.Outside.{hart_outside};
+ghost use Rattle.bn_machine.specs.Within.{JumpsAligned};
 
 use crate::machine::Machine;
 use crate::{LineBuf, Unbuilt};
-use bn_types::{Act, Cause, Event, Insn, Steps};
+use bn_types::{Act, Cause, Event, Insn, Kind, Steps};
 use rv_csr::Wires;
 use rv_exec::act;
 use rv_insn::decode;
@@ -25,7 +27,8 @@ pub(super) const ILLEGAL_INSTRUCTION: Cause = Cause(2);
 impl Machine {
     /// Makes one event and leaves its lines.
     ///
-    /// `Unbuilt` comes exactly where the event needs a part that isn't built yet; then nothing changes, and
+    /// `Unbuilt` comes exactly where the event needs a part that isn't built yet; then nothing
+    /// changes, and
     /// no line is left.
     #[tactic(auto, unfolding(bn_model::specs::Stepping::step, bn_model::specs::Stepping::lines, bn_model::specs::Stepping::is_built_event))]
     pub fn turn<L: Ledger>(
@@ -35,12 +38,14 @@ impl Machine {
         steps: &mut Steps<L>,
     ) -> Result<(), Unbuilt>
         requires on { self.old.state.off ≡ false }
-        requires fits { Fits self.old.state event }
+        requires fits { flat.Fits self.old.state event }
         requires clock { self.old.state.clock < 2 ^ 64 - 1 }
         ensures built { IsOk result ↔ IsTrue (flat.is_built_event self.old.state event) }
-        ensures stepped { self.new.state ≡ flat.step self.old.state event }
-        ensures stands { StandsFor self.new.parts (flat.step self.old.state event) }
-        ensures told { lines.new ≡ text_of (flat.lines self.old.state event) }
+        ensures stepped { OnOk result (self.new.state ≡ flat.step self.old.state event) }
+        ensures told { OnOk result (lines.new ≡ text_of (flat.lines self.old.state event)) }
+        ensures unchanged { OnErr result (self.new.state ≡ self.old.state) }
+        ensures silent { OnErr result (lines.new ≡ []) }
+        ensures stands { StandsFor self.new.parts self.new.state }
         ensures few { steps.new ≤ steps.old + 30 }
     {
         lines.clear();
@@ -48,6 +53,7 @@ impl Machine {
             Event::Turn(hart) => self.take_turn(hart, lines, steps),
             _ => Err(Unbuilt),
         };
+        // For the prover: the parts stand for a state of the flat machine.
         self.stand();
         made
     }
@@ -62,9 +68,35 @@ impl Machine {
         requires hart { h < length self.old.state.harts }
         requires clock { self.old.state.clock < 2 ^ 64 - 1 }
         requires empty { lines.old ≡ [] }
-        ensures built { IsOk result ↔ IsTrue (flat.is_built_turn (decision_of self.old.state h)) }
-        ensures stepped { self.new.state ≡ flat.after_turn self.old.state h (decision_of self.old.state h) }
-        ensures told { lines.new ≡ text_of (flat.lines_of_turn self.old.state h (decision_of self.old.state h)) }
+        ensures made { MakesTurn result self.old.state self.new.state lines.new h }
+        ensures few { steps.new ≤ steps.old + 30 }
+    {
+        // For the prover: a hart of the untrusted world is what it shows outside.
+        self.stay_outside(h);
+        self.make_turn(h, lines, steps)
+    }
+
+    /// Hart h runs the untrusted world.
+    fn stay_outside(&self, h: u8)
+        requires { h < length self.now.state.harts }
+        ensures { hart_outside self.now.state h ≡ hart_at self.now.state h }
+    {
+        // For the prover: the same of the hart by itself.
+        self.harts[h as usize].stay_outside();
+    }
+
+    fn make_turn<L: Ledger>(
+        &mut self,
+        h: u8,
+        lines: &mut LineBuf,
+        steps: &mut Steps<L>,
+    ) -> Result<(), Unbuilt>
+        requires hart { h < length self.old.state.harts }
+        requires clock { self.old.state.clock < 2 ^ 64 - 1 }
+        requires empty { lines.old ≡ [] }
+        ensures made { let s = self.old.state in
+            MakesAsked result self.old.state self.new.state lines.new h
+            (asked_of s h (hart_outside s h)) }
         ensures few { steps.new ≤ steps.old + 30 }
     {
         if self.harts[h as usize].is_started() {
@@ -84,9 +116,9 @@ impl Machine {
         requires hart { h < length self.old.state.harts }
         requires clock { self.old.state.clock < 2 ^ 64 - 1 }
         requires empty { lines.old ≡ [] }
-        ensures built { IsOk result ↔ IsTrue (flat.is_built_turn (decision_if_started true self.old.state h (hart_at self.old.state h))) }
-        ensures stepped { self.new.state ≡ flat.after_turn self.old.state h (decision_if_started true self.old.state h (hart_at self.old.state h)) }
-        ensures told { lines.new ≡ text_of (flat.lines_of_turn self.old.state h (decision_if_started true self.old.state h (hart_at self.old.state h))) }
+        ensures made { let s = self.old.state in
+            MakesAsked result self.old.state self.new.state lines.new h
+            (asked_if_started true s h (hart_outside s h)) }
         ensures few { steps.new ≤ steps.old + 30 }
     {
         match self.interrupt(h) {
@@ -101,7 +133,7 @@ impl Machine {
     /// The interrupt that hart h takes before its next instruction.
     fn interrupt(&self, h: u8) -> Option<Cause>
         requires { h < length self.now.state.harts }
-        ensures { result ≡ interrupt_of self.now.state h (hart_at self.now.state h) }
+        ensures { result ≡ interrupt_of self.now.state h (hart_outside self.now.state h) }
     {
         let hart = &self.harts[h as usize];
         hart.csrs().pending(hart.mode(), &self.wires(h))
@@ -110,8 +142,7 @@ impl Machine {
     /// The interrupts that come to hart h from outside. No key can come yet.
     pub(super) fn wires(&self, h: u8) -> Wires
         requires { h < length self.now.state.harts }
-        ensures timer { result.timer ≡ timer_pending self.now.state (hart_at self.now.state h) }
-        ensures external { result.external ≡ external_pending self.now.state h }
+        ensures { result ≡ wires_of self.now.state h (hart_outside self.now.state h) }
     {
         Wires {
             timer: self.harts[h as usize].timer() <= self.clock,
@@ -128,15 +159,15 @@ impl Machine {
         requires hart { h < length self.old.state.harts }
         requires clock { self.old.state.clock < 2 ^ 64 - 1 }
         requires empty { lines.old ≡ [] }
-        ensures built { IsOk result ↔ IsTrue (flat.is_built_turn (decision_of_interrupt self.old.state h (hart_at self.old.state h) None)) }
-        ensures stepped { self.new.state ≡ flat.after_turn self.old.state h (decision_of_interrupt self.old.state h (hart_at self.old.state h) None) }
-        ensures told { lines.new ≡ text_of (flat.lines_of_turn self.old.state h (decision_of_interrupt self.old.state h (hart_at self.old.state h) None)) }
+        ensures made { let s = self.old.state in
+            MakesAsked result self.old.state self.new.state lines.new h
+            (asked_of_interrupt s h (hart_outside s h) None) }
         ensures few { steps.new ≤ steps.old + 30 }
     {
         match self.fetch(h, steps) {
             Ok(word) => self.execute(h, word, lines, steps),
             Err(fault) => {
-                self.trap(h, fault.cause, fault.va, lines);
+                self.fail(h, Kind::Fetch, &fault, lines);
                 Ok(())
             }
         }
@@ -152,9 +183,9 @@ impl Machine {
         requires hart { h < length self.old.state.harts }
         requires clock { self.old.state.clock < 2 ^ 64 - 1 }
         requires empty { lines.old ≡ [] }
-        ensures built { IsOk result ↔ IsTrue (flat.is_built_turn (decision_of_insn self.old.state h (hart_at self.old.state h) (insn_of word))) }
-        ensures stepped { self.new.state ≡ flat.after_turn self.old.state h (decision_of_insn self.old.state h (hart_at self.old.state h) (insn_of word)) }
-        ensures told { lines.new ≡ text_of (flat.lines_of_turn self.old.state h (decision_of_insn self.old.state h (hart_at self.old.state h) (insn_of word))) }
+        ensures made { let hart = hart_outside self.old.state h in
+            MakesAsked result self.old.state self.new.state lines.new h
+            (asked_of_insn hart (insn_of word)) }
         ensures few { steps.new ≤ steps.old + 15 }
     {
         match decode(word) {
@@ -177,9 +208,9 @@ impl Machine {
         requires clock { self.old.state.clock < 2 ^ 64 - 1 }
         requires range { IsInRange insn.now }
         requires empty { lines.old ≡ [] }
-        ensures built { IsOk result ↔ IsTrue (flat.is_built_turn (decision_of_insn self.old.state h (hart_at self.old.state h) (Some insn.now))) }
-        ensures stepped { self.new.state ≡ flat.after_turn self.old.state h (decision_of_insn self.old.state h (hart_at self.old.state h) (Some insn.now)) }
-        ensures told { lines.new ≡ text_of (flat.lines_of_turn self.old.state h (decision_of_insn self.old.state h (hart_at self.old.state h) (Some insn.now))) }
+        ensures made { let hart = hart_outside self.old.state h in
+            MakesAsked result self.old.state self.new.state lines.new h
+            (asked_of_insn hart (Some insn.now)) }
         ensures few { steps.new ≤ steps.old + 15 }
     {
         let asked = self.asked(h, insn);
@@ -190,7 +221,8 @@ impl Machine {
     fn asked(&self, h: u8, insn: &Insn) -> Act
         requires hart { h < length self.now.state.harts }
         requires range { IsInRange insn.now }
-        ensures exact { let hart = hart_at self.now.state h in result ≡ act_of insn.now hart.regs hart.pc }
+        ensures exact { let hart = hart_outside self.now.state h in result ≡ act_of insn.now
+            hart.regs hart.pc }
         ensures range { IsActInRange result }
         ensures aligned { JumpsAligned result }
     {

@@ -1,4 +1,5 @@
-//! Code at virtual pages: page 9, which returns by x1, is at three addresses with flags 0x49, 0x4b and 0xcf.
+//! Code at virtual pages: page 9, which returns by x1, is at three addresses with flags 0x49, 0x4b
+//! and 0xcf.
 
 use super::probe::{Probe, expect_probe};
 

@@ -1,5 +1,5 @@
-//! A guest that writes a letter, in Bare and behind Sv39 tables that lead RAM to its own addresses. It
-//! stores nothing, so each digest is that of the image and zeros.
+//! A guest that writes a letter, in Bare and behind Sv39 tables that lead RAM to its own addresses.
+//! It stores nothing, so each digest is that of the image and zeros.
 
 use super::{bytes_of_code, expect_code, expect_image, push_numbers, push_pairs};
 use std::alloc::{AllocError, Global};

@@ -19,8 +19,8 @@ const SATP: u64 = 0x8000000000080001;
 /// What page 3 has at offset 8.
 const WORD: u64 = 0x1122334455667788;
 
-/// The root leads low addresses to page 2, and RAM to its own addresses. A leaf of 2 MiB in page 2 leads to
-/// RAM's first page, and page 3 has a word.
+/// The root leads low addresses to page 2, and RAM to its own addresses. A leaf of 2 MiB in page 2
+/// leads to RAM's first page, and page 3 has a word.
 const TABLES: [(u64, u64); 4] = [
     (0x80001000, 0x20000801), // page 1, entry 0
     (0x80001010, 0x200000cf), // page 1, entry 2
@@ -38,6 +38,7 @@ fn place_page(rt: &impl Abort, nest: &mut Nest, page: Gpn)
     ensures placed { place nest.new page.0 ≢ None }
     ensures others { (other : ℕ) → other ≢ page.0 → place nest.new other ≡ place nest.old other }
     ensures ram { nest.new.ram ≡ nest.old.ram }
+    ensures frames { length nest.new.frames ≡ length nest.old.frames }
     ensures count { length nest.new.free + 1 ≡ length nest.old.free }
 {
     match nest.map(page) {
@@ -46,11 +47,11 @@ fn place_page(rt: &impl Abort, nest: &mut Nest, page: Gpn)
     }
 }
 
-/// A nest of 16 pages that are all placed, with a frame to spare.
+/// A nest of 16 pages that are all placed, with 6 frames for its tables and one to spare.
 fn place_all(rt: &impl Abort, frames: Frames) -> Nest
     requires { frames ≡ replicate 23 zero_page }
     ensures ram { result.ram ≡ 16 }
-    ensures spare { 0 < length result.free }
+    ensures frames { length result.frames ≡ 23 }
     ensures placed { AllPlaced result }
 {
     let mut nest = Nest::build(frames, 16);

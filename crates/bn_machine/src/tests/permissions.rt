@@ -1,5 +1,5 @@
-//! Leaves of 4 KiB that lead to page 9, each with other flags, in mode S; first with SUM and MXR clear, then
-//! with each of them set.
+//! Leaves of 4 KiB that lead to page 9, each with other flags, in mode S; first with SUM and MXR
+//! clear, then with each of them set.
 
 use super::probe::{Probe, expect_probe};
 

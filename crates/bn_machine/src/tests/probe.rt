@@ -1,12 +1,14 @@
-//! Guests that try accesses one after another. The lines that are expected of them follow from the Privileged
-//! ISA; an interpreter in C, written apart from this machine, writes them too, and the digests are `sha256sum`'s.
+//! Guests that try accesses one after another. The lines that are expected of them follow from the
+//! Privileged ISA; an interpreter in C, written apart from this machine, writes them too, and the
+//! digests are `sha256sum`'s.
 ghost use Rattle.std.specs.Prelude.{◌≤◌};
 
 use super::{bytes_of_code, expect_image, push_code, push_numbers, push_pairs};
 use std::alloc::{AllocError, Global};
 use std::process::Abort;
 
-/// What each of them begins with. The handler writes `Y` where `stval` is x14, the address that was tried, and
+/// What each of them begins with. The handler writes `Y` where `stval` is x14, the address that was
+/// tried, and
 /// `N` where it isn't, and goes on at x9 in mode S.
 const HANDLER: [u32; 14] = [
     0x01c0006f, // jal x0,begin
@@ -27,7 +29,8 @@ const HANDLER: [u32; 14] = [
     0x18029073, // csrrw x0,satp,x5
 ];
 
-/// Sv39 with the root in page 1. There entry 2 leads, by a leaf of 1 GiB, to RAM at its own addresses.
+/// Sv39 with the root in page 1. There entry 2 leads, by a leaf of 1 GiB, to RAM at its own
+/// addresses.
 const SATP: u64 = 0x8000000000080001;
 
 /// A guest behind the handler.

@@ -1,6 +1,6 @@
-//! A guest that writes `stvec` and `satp`, where the root of the tables lies outside a RAM of 16 pages, so
-//! that no instruction can be fetched behind that write. It stores nothing, so each digest is that of the
-//! image and zeros.
+//! A guest that writes `stvec` and `satp`, where the root of the tables lies outside a RAM of 16
+//! pages, so that no instruction can be fetched behind that write. It stores nothing, so each
+//! digest is that of the image and zeros.
 
 use super::{bytes_of_code, push_numbers, run_image};
 use bn_types::Status;

@@ -1,4 +1,5 @@
-//! The call that the program makes, over a desk and a sink in memory. Each digest comes from another program.
+//! The call that the program makes, over a desk and a sink in memory. Each digest comes from
+//! another program.
 use super::{bytes_of_code, text};
 use crate::bastion;
 use bn_edge::{MemDesk, MemSink};

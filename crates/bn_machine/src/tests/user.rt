@@ -1,5 +1,5 @@
-//! A guest that goes to mode U, where it may neither launch nor return from a trap nor wait, and loads and
-//! stores outside memory at addresses that aren't multiples of the width.
+//! A guest that goes to mode U, where it may neither launch nor return from a trap nor wait, and
+//! loads and stores outside memory at addresses that aren't multiples of the width.
 
 /// The instructions, from 0x80000000 on.
 pub const CODE: [u32; 25] = [
@@ -32,8 +32,8 @@ pub const CODE: [u32; 25] = [
     0x00000073, // ecall
 ];
 
-/// Its trace: seven instructions come before mode U, and the handler has seven. It stores nothing, so the digest
-/// is that of its code and zeros.
+/// Its trace: seven instructions come before mode U, and the handler has seven. It stores nothing,
+/// so the digest is that of its code and zeros.
 pub const LINES: [&str; 7] = [
     "trap 7 0 0000000000000002 000000008000001c\n",
     "trap 15 0 0000000000000002 0000000080000020\n",

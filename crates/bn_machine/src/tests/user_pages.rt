@@ -1,4 +1,5 @@
-//! Accesses in mode U. Page 8 has a load, a store, a jump and an ECALL, and is at 0x8000 with flags 0x5b.
+//! Accesses in mode U. Page 8 has a load, a store, a jump and an ECALL, and is at 0x8000 with flags
+//! 0x5b.
 
 use super::probe::{Probe, expect_probe};
 

@@ -1,6 +1,9 @@
-//! A guest that executes every instruction of RV64I, Zicsr and the supervisor level in Bare mode on corner
-//! operands, folds what they leave into a sum and writes the sum in hexadecimal, and what QEMU's machine
-//! `virt` says of it (qemu-system-riscv64 7.2, `-cpu rv64,c=false`, entered in mode S at 0x80000000).
+//! A guest that executes every instruction of RV64I, Zicsr and the supervisor level in Bare mode on
+//! corner
+//! operands, folds what they leave into a sum and writes the sum in hexadecimal, and what QEMU's
+//! machine
+//! `virt` says of it (qemu-system-riscv64 7.2, `-cpu rv64,c=false`, entered in mode S at
+//! 0x80000000).
 
 /// The instructions, from 0x80000000 on. `fold` takes 31 times the sum plus x10.
 pub const CODE: [u32; 302] = [
@@ -339,8 +342,8 @@ pub const OPERANDS: [u64; 19] = [
     0x123456789abcdef,
 ];
 
-/// Its trace. QEMU's log of single steps has the pc of each instruction and the cause and pc of each trap; each
-/// instruction and each interrupt is an event.
+/// Its trace. QEMU's log of single steps has the pc of each instruction and the cause and pc of
+/// each trap; each instruction and each interrupt is an event.
 pub const LINES: [&str; 31] = [
     "trap 59777 0 8000000000000001 0000000080000338\n",
     "trap 59811 0 0000000000000003 0000000080000354\n",

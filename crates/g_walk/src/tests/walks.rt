@@ -1,4 +1,4 @@
-ghost use Rattle.std.specs.Prelude.{◌≡◌, ℕ, ◌<◌, ◌≤◌, length};
+ghost use Rattle.std.specs.Prelude.{◌≡◌, ℕ, ◌<◌, ◌≤◌, ◌^◌, length};
 ghost use Rattle.bn_model.specs.CsrFile.{HasMode};
 
 use super::flat::Flat;
@@ -26,7 +26,7 @@ fn walk_in_s<L: Ledger>(blank: Blank, flat: &Flat, va: u64, kind: Kind) -> Resul
     requires name { blank.name ≡ L.name }
     requires parts { blank.parts ≡ L.parts }
     requires some { 0 < L.parts }
-    requires few { length flat.now.pages.now ≤ 4096 }
+    requires few { length flat.now.pages.now ≤ 2 ^ 32 }
 {
     let mut steps = Steps::<L>::open(blank);
     walk(flat, SATP, va, kind, Mode::S, false, false, &mut steps)
@@ -36,20 +36,20 @@ fn leaf_at<L: Ledger>(blank: Blank, flat: &Flat, va: u64) -> Result<Leaf, LeafFa
     requires name { blank.name ≡ L.name }
     requires parts { blank.parts ≡ L.parts }
     requires some { 0 < L.parts }
-    requires few { length flat.now.pages.now ≤ 4096 }
+    requires few { length flat.now.pages.now ≤ 2 ^ 32 }
 {
     let mut steps = Steps::<L>::open(blank);
     leaf(flat, SATP, va, &mut steps)
 }
 
 fn walk_once(flat: &Flat, va: u64, kind: Kind) -> Result<Leaf, Cause>
-    requires { length flat.now.pages.now ≤ 4096 }
+    requires { length flat.now.pages.now ≤ 2 ^ 32 }
 {
     walk_in_s::<Brand>(Blank::new(1), flat, va, kind)
 }
 
 fn leaf_once(flat: &Flat, va: u64) -> Result<Leaf, LeafFault>
-    requires { length flat.now.pages.now ≤ 4096 }
+    requires { length flat.now.pages.now ≤ 2 ^ 32 }
 {
     leaf_at::<Brand>(Blank::new(1), flat, va)
 }

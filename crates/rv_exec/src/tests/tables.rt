@@ -1,5 +1,5 @@
-//! Values that another RISC-V machine computed: QEMU's user mode, from a program in assembly that has each
-//! instruction with these operands.
+//! Values that another RISC-V machine computed: QEMU's user mode, from a program in assembly that
+//! has each instruction with these operands.
 
 use bn_types::{ImmOp, Op, ShiftOp, Test, Width, WordOp};
 

@@ -1,11 +1,12 @@
 //! The immediates of a word (Unprivileged ISA, "Immediate Encoding Variants").
 ghost use Rattle.std.specs.Prelude.{◌≡◌, ◌^◌, ◌<◌};
 ghost use Rattle.bn_model.specs.Fields as field;
+ghost use Rattle.bn_model.specs.TwosComplement.{signed_of};
 
 /// The number of 12 bits as a two's complement.
 fn signed12(number: u32) -> i32
     requires { number < 2 ^ 12 }
-    ensures { result ≡ field.signed 12 number }
+    ensures { result ≡ signed_of 12 number }
 {
     if number < 0x800 {
         number as i32
@@ -30,7 +31,8 @@ pub fn s_immediate(word: u32) -> i32
     signed12((word >> 25) * 0x20 + ((word >> 7) & 0x1f))
 }
 
-/// `imm[12]` from bit 31, `imm[11]` from bit 7, `imm[10:5]` from bits 30:25, `imm[4:1]` from bits 11:8.
+/// `imm[12]` from bit 31, `imm[11]` from bit 7, `imm[10:5]` from bits 30:25, `imm[4:1]` from bits
+/// 11:8.
 #[tactic(auto, unfolding(bn_model::specs::Fields::b_immediate))]
 pub fn b_immediate(word: u32) -> i32
     ensures { result ≡ field.b_immediate word }
@@ -57,7 +59,8 @@ pub fn u_immediate(word: u32) -> i32
     upper * 0x1000
 }
 
-/// `imm[20]` from bit 31, `imm[19:12]` from bits 19:12, `imm[11]` from bit 20, `imm[10:1]` from bits 30:21.
+/// `imm[20]` from bit 31, `imm[19:12]` from bits 19:12, `imm[11]` from bit 20, `imm[10:1]` from
+/// bits 30:21.
 #[tactic(auto, unfolding(bn_model::specs::Fields::j_immediate))]
 pub fn j_immediate(word: u32) -> i32
     ensures { result ≡ field.j_immediate word }

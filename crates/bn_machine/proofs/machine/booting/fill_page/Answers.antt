@@ -23,4 +23,5 @@ loop-offset-preserved c =
       places = λ other. c.store.ensures.places other ∙ c.loop-offset.invariant.places other;
       ram = c.store.ensures.ram ∙ c.loop-offset.invariant.ram;
       free = c.store.ensures.free ∙ c.loop-offset.invariant.free;
+      frames = c.store.ensures.frames ∙ c.loop-offset.invariant.frames;
     }

@@ -32,8 +32,8 @@ loop-number-preserved c =
     let filling = c.fill_page.ensures in
     filled_more c.build-nest.result c.loop-number.nest c.place_page-frame.new.nest c.fill_page.new.nest c.loop-number.number
     c.place_page-frame.result _ c.args.bytes.now below (range_is_page c.args.bytes.now c.loop-number.number) c.loop-number.invariant
-    (record { here = placing.placed; others = placing.others; held = placing.contents; ram = placing.ram; spare = placing.count })
-    (record { held = filling.contents; places = filling.places; ram = filling.ram; free = filling.free })
+    (record { here = placing.placed; others = placing.others; held = placing.contents; ram = placing.ram; frames = placing.frames; spare = placing.count })
+    (record { held = filling.contents; places = filling.places; ram = filling.ram; free = filling.free; frames = filling.frames })
 
 pub returns-clause-contents : goal.returns-clause-contents
 returns-clause-contents c =

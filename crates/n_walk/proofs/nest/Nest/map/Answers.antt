@@ -1,9 +1,10 @@
-use Rattle.std.proofs.Common.{◌≡◌, ℕ, ◌<◌, List, None, ap, ◌∙◌}
+use Rattle.std.proofs.Common.{◌≡◌, ◌<◌, None, set}
 use Rattle.bn_types.specs.Numbers.{zero_page}
-use Rattle.bn_model.specs.Nesting.{placed_in, led}
+use Rattle.bn_model.specs.Nesting.{placed_in}
 use Rattle.bn_model.proofs.PageNumbers.{length-zero_page}
 use Rattle.n_walk.specs.Holding.{Holds}
-use Rattle.n_walk.proofs.Leading.{before, led_with, led-by, IsLed, last-free, holds-mapped, contents-mapped}
+use Rattle.n_walk.proofs.Leading.{before, is-led, IsLed, last-free, holds-mapped, contents-mapped}
+use Rattle.n_walk.proofs.Writing.{IsLeaf, whole-set}
 use Rattle.n_walk.proofs.nest.Nest.map.Goals as goal
 
 -- what holds before, with the frame at the end of the pool
@@ -16,11 +17,15 @@ inside c = rw (← c.self.view_is) at c.requires.inside
 unplaced : (c : goal.After-lead) → placed_in c.self.inside.ram_pages c.self.inside.frames c.args.page.0 ≡ None
 unplaced c = rw (← c.self.view_is) at c.requires.unplaced
 
-new : (c : goal.After-lead) → c.lead.new.frames ≡ led_with c.self.inside.frames c.args.page.0 c.in-Some.fresh zero_page
-new c = c.lead.ensures ∙ ap (λ (frames : List (List ℕ)). led frames c.args.page.0 c.in-Some.fresh) c.zero.ensures
+leaf : (c : goal.After-lead) → IsLeaf (set c.self.inside.frames c.in-Some.fresh.0 zero_page) c.lead.new.frames c.args.page.0 c.in-Some.fresh
+leaf c = rw c.zero.ensures at c.lead.ensures
 
 is_led : (c : goal.After-lead) → IsLed c.self.inside.frames c.lead.new.frames c.self.inside.ram_pages c.args.page.0 c.in-Some.fresh
-is_led c = led-by _ _ _ c.pop.new.self.items _ c.args.page.0 zero_page (holds c) (inside c) length-zero_page (new c)
+is_led c = is-led _ _ _ c.pop.new.self.items _ c.args.page.0 zero_page (holds c) (inside c) (leaf c)
+
+pub lead-requires-clause-whole : goal.lead-requires-clause-whole
+lead-requires-clause-whole c =
+    rw c.zero.ensures (whole-set c.self.inside.frames c.in-Some.fresh.0 zero_page length-zero_page c.self.invariant.whole)
 
 pub invariant_of-self-2 : goal.invariant_of-self-2
 invariant_of-self-2 c =
@@ -43,7 +48,7 @@ returns-clause-others c = rw (← c.self.view_is) (is_led c).others
 pub returns-clause-contents : goal.returns-clause-contents
 returns-clause-contents c =
     rw (← c.self.view_is)
-    (contents-mapped _ c.lead.new.frames _ c.pop.new.self.items c.in-Some.fresh c.args.page.0 (holds c) (inside c) (unplaced c) (new c))
+    (contents-mapped _ c.lead.new.frames _ c.pop.new.self.items c.in-Some.fresh c.args.page.0 (holds c) (inside c) (unplaced c) (leaf c))
 
 pub returns-clause-nested : goal.returns-clause-nested
 returns-clause-nested c = (invariant_of-self-2 c).nested

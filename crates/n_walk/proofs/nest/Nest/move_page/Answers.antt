@@ -1,15 +1,16 @@
-use Rattle.std.proofs.Common.{◌≡◌, ℕ, ◌<◌, List, ◌∷◌, ◌++◌, [], Some, set, ap, sym, ◌∙◌}
-use Rattle.bn_types.specs.Numbers.{zero_page}
+use Rattle.std.proofs.Common.{◌≡◌, ◌<◌, ◌∷◌, ◌++◌, [], Some, length, ap, sym, ◌∙◌}
+use Rattle.bn_types.specs.Numbers.{page_at}
 use Rattle.bn_types.specs.declared.frame.Frame.{Frame}
-use Rattle.bn_model.specs.Nesting.{led}
+use Rattle.bn_model.specs.Nesting.{placed_in}
 use Rattle.n_walk.proofs.Leading.{last-free, frame-from_number}
 use Rattle.n_walk.proofs.Looking.{leaf-place}
-use Rattle.n_walk.proofs.Moving.{CanMove, moved, holds-moved, contents-moved, here-moved, others-moved, left-free-at}
+use Rattle.n_walk.proofs.Writing.{whole-set}
+use Rattle.n_walk.proofs.Moving.{CanMove, holds-moved, contents-moved, here-moved, others-moved, left-free-at}
 use Rattle.n_walk.proofs.nest.Nest.move_page.Goals as goal
 
 -- the page lies on the frame that its entry names, and the pool's last frame is free
 can : (c : goal.After-push)
-    → CanMove c.self.inside.frames c.self.inside.ram_pages c.pop.new.self.items c.in-Some.target c.args.page.0 c.leaf_frame-left.result
+    → CanMove c.self.inside.frames c.lead.new.frames c.self.inside.ram_pages c.pop.new.self.items c.in-Some.target c.args.page.0 c.leaf_frame-left.result
 can c =
     let inside : c.args.page.0 < c.self.inside.ram_pages = rw (← c.self.view_is) at c.requires.inside in
     let some = rw (← c.self.view_is) at c.requires.placed in
@@ -19,19 +20,30 @@ can c =
       placed =
           leaf-place c.self.inside.ram_pages c.self.inside.frames c.args.page.0 inside some
           ∙ ap (λ (f : Frame). Some f) (frame-from_number _ c.leaf_frame-left.result (sym c.leaf_frame-left.ensures));
+      led = rw c.copy_frame.ensures at c.lead.ensures;
     }
 
-new : (c : goal.After-push)
-    → c.zero.new.self ≡ moved c.self.inside.frames c.args.page.0 c.in-Some.target c.leaf_frame-left.result
-new c =
-    c.zero.ensures
-    ∙ ap (λ (frames : List (List ℕ)). set frames c.leaf_frame-left.result.0 zero_page)
-    (c.lead.ensures ∙ ap (λ (frames : List (List ℕ)). led frames c.args.page.0 c.in-Some.target) c.copy_frame.ensures)
+pub lead-requires-clause-whole : goal.lead-requires-clause-whole
+lead-requires-clause-whole c =
+    rw c.copy_frame.ensures (whole-set c.self.inside.frames c.in-Some.target.0 _ size c.self.invariant.whole)
+  where
+    inside : c.args.page.0 < c.self.inside.ram_pages
+    inside = rw (← c.self.view_is) at c.requires.inside
+
+    placed : placed_in c.self.inside.ram_pages c.self.inside.frames c.args.page.0 ≡ Some c.leaf_frame-left.result
+    placed =
+        leaf-place c.self.inside.ram_pages c.self.inside.frames c.args.page.0 inside (rw (← c.self.view_is) at c.requires.placed)
+        ∙ ap (λ (f : Frame). Some f) (frame-from_number _ c.leaf_frame-left.result (sym c.leaf_frame-left.ensures))
+
+    size : length (page_at c.self.inside.frames c.leaf_frame-left.result.0) ≡ 4096
+    size =
+        c.self.invariant.whole c.leaf_frame-left.result.0
+        (c.self.invariant.nested.inside c.args.page.0 c.leaf_frame-left.result placed)
 
 pub invariant_of-self-2 : goal.invariant_of-self-2
 invariant_of-self-2 c =
-    rw (new c, c.push.ensures.items)
-    (holds-moved c.self.inside.frames c.self.inside.ram_pages c.pop.new.self.items c.in-Some.target c.args.page.0 c.leaf_frame-left.result (can c))
+    rw (c.zero.ensures, c.push.ensures.items)
+    (holds-moved c.self.inside.frames c.lead.new.frames c.self.inside.ram_pages c.pop.new.self.items c.in-Some.target c.args.page.0 c.leaf_frame-left.result (can c))
 
 pub returns-clause-free : goal.returns-clause-free
 returns-clause-free c =
@@ -43,21 +55,24 @@ returns-clause-answer c = (λ e. absurd (cc), λ none. absurd (none c.in-Some.ta
 
 pub returns-clause-placed : goal.returns-clause-placed
 returns-clause-placed c =
-    rw (new c)
-    (here-moved c.self.inside.frames c.self.inside.ram_pages c.pop.new.self.items c.in-Some.target c.args.page.0 c.leaf_frame-left.result (can c))
+    rw (c.zero.ensures)
+    (here-moved c.self.inside.frames c.lead.new.frames c.self.inside.ram_pages c.pop.new.self.items c.in-Some.target c.args.page.0 c.leaf_frame-left.result (can c))
 
 pub returns-clause-others : goal.returns-clause-others
 returns-clause-others c =
-    rw (← c.self.view_is, new c)
-    (others-moved c.self.inside.frames c.self.inside.ram_pages c.pop.new.self.items c.in-Some.target c.args.page.0 c.leaf_frame-left.result (can c))
+    rw (← c.self.view_is, c.zero.ensures)
+    (others-moved c.self.inside.frames c.lead.new.frames c.self.inside.ram_pages c.pop.new.self.items c.in-Some.target c.args.page.0 c.leaf_frame-left.result (can c))
 
 pub returns-clause-contents : goal.returns-clause-contents
 returns-clause-contents c =
-    rw (← c.self.view_is, new c)
-    (contents-moved c.self.inside.frames c.self.inside.ram_pages c.pop.new.self.items c.in-Some.target c.args.page.0 c.leaf_frame-left.result (can c))
+    rw (← c.self.view_is, c.zero.ensures)
+    (contents-moved c.self.inside.frames c.lead.new.frames c.self.inside.ram_pages c.pop.new.self.items c.in-Some.target c.args.page.0 c.leaf_frame-left.result (can c))
 
 pub returns-clause-left : goal.returns-clause-left
 returns-clause-left c =
-    rw (← c.self.view_is, new c, c.push.ensures.items)
-    (left-free-at c.self.inside.frames c.self.inside.ram_pages c.pop.new.self.items c.in-Some.target c.args.page.0 c.leaf_frame-left.result
+    rw (← c.self.view_is, c.zero.ensures, c.push.ensures.items)
+    (left-free-at c.self.inside.frames c.lead.new.frames c.self.inside.ram_pages c.pop.new.self.items c.in-Some.target c.args.page.0 c.leaf_frame-left.result
     (c.pop.new.self.items ++ c.leaf_frame-left.result ∷ []) (can c))
+
+pub returns-clause-nested : goal.returns-clause-nested
+returns-clause-nested c = (invariant_of-self-2 c).nested

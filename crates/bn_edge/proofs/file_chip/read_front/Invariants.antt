@@ -1,0 +1,9 @@
+use Rattle.std.proofs.Common.{◌-◌, ◌≤◌, length}
+use Rattle.bn_edge.proofs.file_chip.read_front.Given as goal
+
+-- no more than there is room for
+abbrev pub invariant-loop-len : goal.invariant-loop-len
+invariant-loop-len g l = l.len ≤ length l.buffer
+
+abbrev pub decreases-loop-len : goal.decreases-loop-len
+decreases-loop-len g l = length l.buffer - l.len

@@ -1,0 +1,5 @@
+use Rattle.bn_model.proofs.ZeroingLemmas.{run-append}
+use Rattle.bn_model.proofs.laws.running.runs_append.Goals as goal
+
+pub returns : goal.returns
+returns c = run-append

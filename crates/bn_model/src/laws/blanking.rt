@@ -1,0 +1,28 @@
+//! The laws of a resting module's secrets.
+ghost use Rattle.bn_model.specs.BlankingLaws.{KeepsResting, RestingHidesSecrets, TellsNoSecrets, UsesNoSecrets, ZeroingChangesNothing};
+
+/// The lines of an event are the same without the secrets of a module that rests before it.
+pub fn tells_no_secrets()
+    ensures { TellsNoSecrets }
+{}
+
+/// An event before and after which a module rests leaves the same state but for its secrets.
+pub fn uses_no_secrets()
+    ensures { UsesNoSecrets }
+{}
+
+/// A resting module that lives on keeps its private pages, and its saved frame until it starts.
+pub fn keeps_resting()
+    ensures { KeepsResting }
+{}
+
+/// While a module rests, zeroing its secrets changes nothing else, up to the lines of the event
+/// that starts it.
+pub fn zeroing_changes_nothing()
+    ensures { ZeroingChangesNothing }
+{}
+
+/// Two states that differ in a resting module's secrets alone tell the same until it runs.
+pub fn resting_hides_secrets()
+    ensures { RestingHidesSecrets }
+{}

@@ -1,0 +1,10 @@
+//! The index of owned pages: which accesses the declarations of live modules admit.
+#![tactic(auto)]
+
+pub use shadow::Shadow;
+
+mod counts;
+mod search;
+mod shadow;
+#[cfg(test)]
+mod tests;

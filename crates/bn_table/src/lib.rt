@@ -1,0 +1,15 @@
+//! The table of live modules: their rows, and the seat of each that runs.
+#![tactic(auto)]
+
+pub use left::Left;
+pub use seat::Seat;
+pub use table::Table;
+
+mod change;
+mod left;
+mod offers;
+mod search;
+mod seat;
+mod table;
+#[cfg(test)]
+mod tests;

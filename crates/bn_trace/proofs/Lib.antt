@@ -1,0 +1,4 @@
+pub mod Fieldwise
+pub mod ReadingLemmas
+pub mod RoundTrip
+pub mod ValueLemmas

@@ -1,0 +1,114 @@
+"""Guests in assembly, assembled by GNU as, and the test modules that are made of them."""
+import pathlib
+import re
+import subprocess
+import tempfile
+
+from interpreter import Machine
+
+HERE = pathlib.Path(__file__).resolve().parent
+TESTS = HERE.parent / "crates" / "bn_machine" / "src" / "tests"
+PREFIX = "riscv64-unknown-elf-"
+
+
+def tool(name, *words):
+    return subprocess.run([PREFIX + name, *words], check=True, capture_output=True, text=True).stdout
+
+
+def assembled(name):
+    """The bytes of a guest."""
+    return assembled_text((HERE / "guests" / f"{name}.S").read_text())
+
+
+def assembled_text(text):
+    """The bytes of assembly, which begins at the start of RAM."""
+    with tempfile.TemporaryDirectory() as folder:
+        base = pathlib.Path(folder) / "guest"
+        pathlib.Path(f"{base}.S").write_text(text)
+        tool("as", "-march=rv64i_zicsr", "-I", str(HERE / "guests"), "-o", f"{base}.o", f"{base}.S")
+        tool("ld", "-Ttext=0x80000000", "-e", "_start", "-o", f"{base}.elf", f"{base}.o")
+        tool("objcopy", "-O", "binary", f"{base}.elf", f"{base}.img")
+        return pathlib.Path(f"{base}.img").read_bytes()
+
+
+def listed(image):
+    """The disassembly of code at the start of RAM, a text a word."""
+    with tempfile.NamedTemporaryFile(suffix=".img") as file:
+        file.write(image)
+        file.flush()
+        text = tool("objdump", "-D", "-b", "binary", "-m", "riscv:rv64", "-M", "no-aliases,numeric",
+                    "--adjust-vma=0x80000000", "-z", file.name)
+    found = {int(at, 16): line for at, line in re.findall(r"^ *([0-9a-f]+):\t[0-9a-f]+ *\t(.*)$", text, re.M)}
+    # a word that doesn't end in bits 11 would be two compressed instructions, which the machine doesn't have
+    lines = [found[0x80000000 + at] if image[at] & 3 == 3 else "no instruction" for at in range(0, len(image), 4)]
+    return [re.sub(r"\t", " ", line).split(" #")[0].replace("unimp", "csrrw x0,cycle,x0").strip() for line in lines]
+
+
+def settings(name):
+    """The first comment of a guest, and its pages of RAM."""
+    text = (HERE / "guests" / f"{name}.S").read_text()
+    about = re.match(r"((?:# .*\n)+?)# ram (\d+)\n", text)
+    return about.group(1).replace("# ", ""), int(about.group(2))
+
+
+def parts(image):
+    """A guest's code, which ends before byte 1024, as words, and the numbers behind it with their offsets."""
+    code = image[:1024]
+    words = [int.from_bytes(code[at:at + 4], "little") for at in range(0, len(code), 4)]
+    while words[-1] == 0:
+        words.pop()
+    numbers = [(at, int.from_bytes(image[at:at + 8], "little")) for at in range(1024, len(image), 8)]
+    return words, [pair for pair in numbers if pair[1]]
+
+
+def module(name):
+    """The test module of a guest: its code and tables, and its trace as the interpreter writes it."""
+    about, ram = settings(name)
+    image = assembled(name)
+    words, tables = parts(image)
+    texts = listed(image[:4 * len(words)])
+    lines = Machine(image, ram).run()
+    is_built = lines[-1] != "unbuilt"
+    uses = (["bytes_of_code", "expect_image", "push_pairs"] if tables else
+            ["expect_code"] if is_built else ["bytes_of_code", "run_image"])
+    out = [f"//! {line}" for line in about.strip().split("\n")]
+    out += ["//! Made by `tests/make` from its assembly; the trace is that of `tests/interpreter.py`.", ""]
+    out += [f"use super::{{{', '.join(uses)}}};" if len(uses) > 1 else f"use super::{uses[0]};"]
+    if not is_built:
+        out += ["use bn_types::Status;"]
+    out += ["", f"const CODE: [u32; {len(words)}] = ["]
+    out += [f"    0x{word:08x}, // {text}" for word, text in zip(words, texts)] + ["];", ""]
+    if tables:
+        out += ["/// Its tables: byte offsets, and the numbers there.", f"const TABLES: [(usize, u64); {len(tables)}] = ["]
+        out += [f"    ({at}, 0x{number:x})," for at, number in tables] + ["];", ""]
+    out += [f"const LINES: [&str; {len(lines)}] = ["] + [f'    "{line}\\n",' for line in lines] + ["];", ""]
+    out += ["#[test]", f"fn {test_name(name)}(rt: HostRuntime) {{"]
+    if tables:
+        out += ['    let mut image = bytes_of_code(rt.alloc(), &CODE).expect(&rt, "memory");',
+                '    push_pairs(&mut image, &TABLES).expect(&rt, "memory");',
+                f"    expect_image(&rt, rt.alloc(), {ram}, &image, &LINES);"]
+    elif is_built:
+        out += [f"    expect_code(&rt, rt.alloc(), {ram}, &CODE, &LINES);"]
+    else:
+        out += ['    let image = bytes_of_code(rt.alloc(), &CODE).expect(&rt, "memory");',
+                f"    let status = run_image(&rt, rt.alloc(), {ram}, 100_000, &image, &LINES);",
+                "    assert_eq!(rt; status, Status::Unbuilt);"]
+    return "\n".join(out + ["}", ""])
+
+
+def test_name(name):
+    return {
+        "registers": "registers_read_back_what_was_written",
+        "interrupts": "a_software_interrupt_is_taken",
+        "counters": "counters_count",
+        "trap_values": "stval_by_cause",
+        "calls": "what_calls_leave",
+        "upper_half": "the_upper_half_of_addresses",
+        "user_ident": "user_mode_may_ask_for_an_identity",
+        "user_call": "user_mode_may_call_a_module",
+        "secure_words": "what_a_mode_may_not_execute",
+    }[name]
+
+
+def names():
+    return sorted(path.stem for path in (HERE / "guests").glob("*.S"))
