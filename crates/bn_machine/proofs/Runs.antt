@@ -10,9 +10,10 @@ use Rattle.bn_types.specs.declared.event.Event.{Event}
 use Rattle.bn_model.specs.Running.{Course, Run, course, run, turns}
 use Rattle.bn_model.specs.Spelling.{spelling, text_of}
 use Rattle.bn_model.specs.State.{State}
-use Rattle.bn_model.specs.Stepping.{step, lines, is_built_event}
+use Rattle.bn_model.specs.Stepping.{step, lines}
 use Rattle.bn_model.proofs.RunningLemmas.{course_built, course_none, course_off, course_unbuilt, run-append, run_on, turns-more, turns-split}
 use Rattle.bn_model.proofs.SteppingLemmas.{clock_after, harts_after}
+use Rattle.bn_machine.specs.Built.{is_built_event}
 use Rattle.bn_machine.specs.Telling.{FinishesRun, StopsRun}
 use Rattle.bn_machine.proofs.Wrote.{appended-append, appended-nil}
 
@@ -24,10 +25,10 @@ abbrev pub text_after : ℕ → State → List ℕ
 text_after made start = text_of (made_run made start).told
 
 abbrev pub rest_of : State → ℕ → Course
-rest_of now left = course None now (turns left)
+rest_of now left = course is_built_event None now (turns left)
 
 abbrev pub whole : State → ℕ → Course
-whole start limit = course None start (turns limit)
+whole start limit = course is_built_event None start (turns limit)
 
 -- so many turns were made and their lines written, and what the rest will write makes up the whole
 pub record IsUnderway (start now : State) (limit made : ℕ) (old sink : SinkAccount) : Type 0 where
@@ -72,7 +73,7 @@ module _ (start now : State) (limit made : ℕ) (old sink : SinkAccount) (underw
       → rest_of now (limit - made)
       ≡ (let rest = rest_of (turn now) (limit - (made + 1)) in record rest { told = lines now (Turn 0) ++ rest.told })
   unfolding turns
-  after_built built = ap (λ n. rest_of now n) left ∙ course_built now (Turn 0) (turns (limit - (made + 1))) underway.on built
+  after_built built = ap (λ n. rest_of now n) left ∙ course_built is_built_event now (Turn 0) (turns (limit - (made + 1))) underway.on built
 
   text_left : is_built_event now (Turn 0) ≡ true
       → text_of (rest_of now (limit - made)).told
@@ -114,7 +115,7 @@ module _ (start now : State) (limit made : ℕ) (old sink : SinkAccount) (underw
   pub finished_off : (later : SinkAccount) → is_built_event now (Turn 0) ≡ true → (turn now).off ≡ true
       → Writes sink later (turn_text now) → FinishesRun (whole start limit) Shutdown (turn now) old later
   finished_off later built off e =
-      let rest = course_off (turn now) (turns (limit - (made + 1))) off in
+      let rest = course_off is_built_event (turn now) (turns (limit - (made + 1))) off in
       let total : text_of (whole start limit).told ≡ text_after made start ++ turn_text now =
       underway.text ∙ ap (λ t. text_after made start ++ t) (text_left built ∙ ap (λ (c : Course). turn_text now ++ text_of c.told) rest ∙ append-nil (turn_text now)) in
       record {
@@ -128,7 +129,7 @@ module _ (start now : State) (limit made : ℕ) (old sink : SinkAccount) (underw
       → FinishesRun (whole start limit) Unbuilt now old sink
   unfolding turns
   finished_unbuilt built =
-      let rest = ap (λ n. rest_of now n) left ∙ course_unbuilt now (Turn 0) (turns (limit - (made + 1))) underway.on built in
+      let rest = ap (λ n. rest_of now n) left ∙ course_unbuilt is_built_event now (Turn 0) (turns (limit - (made + 1))) underway.on built in
       let total : text_of (whole start limit).told ≡ text_after made start =
       underway.text ∙ ap (λ (c : Course). text_after made start ++ text_of c.told) rest ∙ append-nil (text_after made start) in
       record {
@@ -179,7 +180,7 @@ pub finished_limit : (start now : State) (limit made : ℕ) (old sink : SinkAcco
 unfolding turns
 finished_limit start now limit made old sink underway e =
     let none : limit - made ≡ 0 = omega arith in
-    let rest = ap (λ n. rest_of now n) none ∙ course_none now underway.on in
+    let rest = ap (λ n. rest_of now n) none ∙ course_none is_built_event now underway.on in
     let total : text_of (whole start limit).told ≡ text_after made start =
     underway.text ∙ ap (λ (c : Course). text_after made start ++ text_of c.told) rest ∙ append-nil (text_after made start) in
     record {

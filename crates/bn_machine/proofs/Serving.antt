@@ -14,6 +14,7 @@ use Rattle.bn_types.specs.declared.image_sort.ImageSort.TheVariants.{Long}
 use Rattle.bn_model.specs.Loading.{Faulty, load_if_long, load_of}
 use Rattle.bn_model.specs.Reporting.{Files, Report, missing, most_image_bytes, report_of, report_of_file, report_of_load, report_of_order, unbuilt}
 use Rattle.bn_model.specs.Words.{RunOrder, order_of}
+use Rattle.bn_machine.specs.Built.{is_built_event}
 use Rattle.bn_machine.specs.Headline.{AreTold, CountsMiss, IsDue, Outside}
 use Rattle.bn_machine.specs.Story.{Answers, AnswersFault, IsStory}
 use Rattle.bn_machine.proofs.Stories.{file_found}
@@ -66,7 +67,7 @@ module _ (words : List (List ℕ)) (old new : Outside) where
       story_of status unbuilt ne (inl (record {
         files = files;
         agrees = files_agree old.desk.files None;
-        is = sym (ap (λ order. report_of_order order files) named);
+        is = sym (ap (λ order. report_of_order is_built_event order files) named);
         missed = λ can. ap (λ (desk : DeskAccount). desk.misses) same;
         quiet = λ can. ap (λ (desk : DeskAccount). desk.faults) same;
       })) a
@@ -75,30 +76,30 @@ module _ (words : List (List ℕ)) (old new : Outside) where
     -- the desk gave a file
     pub file_story : (status : Status) (file : Vec ℕ Global) → most ≡ most_image_bytes + 1
         → Agrees old.desk.files order.image most (Ok file) → Stays old.desk.misses new.desk.misses → Stays old.desk.faults new.desk.faults
-        → Answers status (report_of_file (Some file.items) order) old.sink new.sink → IsStory status words old new
+        → Answers status (report_of_file is_built_event (Some file.items) order) old.sink new.sink → IsStory status words old new
     unfolding report_of
     file_story status file size agrees missed quiet a = by_status status a where
       whole : (told : Option (List (List ℕ × List ℕ))) → Agrees told order.image most (Ok file)
-          → report_of_file (Some file.items) order ≡ report_of_file (files_of told (Some file.items) order.image) order
+          → report_of_file is_built_event (Some file.items) order ≡ report_of_file is_built_event (files_of told (Some file.items) order.image) order
       whole None h = refl
       whole (Some list) h = by_file (file_named list order.image) h where
-        by_file : (found : Option (List ℕ)) → IsSomeAnd found (λ all. file.items ≡ take most all) → report_of_file (Some file.items) order ≡ report_of_file found order
+        by_file : (found : Option (List ℕ)) → IsSomeAnd found (λ all. file.items ≡ take most all) → report_of_file is_built_event (Some file.items) order ≡ report_of_file is_built_event found order
         by_file (Some all) e =
-            ap (λ load. report_of_load load order) (ap (load_of most_image_bytes (4096 * order.ram_pages)) (e ∙ ap (λ n. take n all) size) ∙ front_loaded most_image_bytes (4096 * order.ram_pages) all)
+            ap (λ load. report_of_load is_built_event load order) (ap (load_of most_image_bytes (4096 * order.ram_pages)) (e ∙ ap (λ n. take n all) size) ∙ front_loaded most_image_bytes (4096 * order.ram_pages) all)
         by_file None e = elim e [ ]
 
-      due : IsDue words old.desk new.desk (report_of_file (Some file.items) order)
+      due : IsDue words old.desk new.desk (report_of_file is_built_event (Some file.items) order)
       due = let files = files_of old.desk.files (Some file.items) in inl (record {
         files = files;
         agrees = files_agree old.desk.files (Some file.items);
-        is = whole old.desk.files agrees ∙ sym (ap (λ n. report_of_order n files) named);
+        is = whole old.desk.files agrees ∙ sym (ap (λ n. report_of_order is_built_event n files) named);
         missed = counts_found _ _ _ (file_found file.items order) missed;
         quiet = quiet;
       })
 
-      by_status : (s : Status) → Answers s (report_of_file (Some file.items) order) old.sink new.sink → IsStory s words old new
+      by_status : (s : Status) → Answers s (report_of_file is_built_event (Some file.items) order) old.sink new.sink → IsStory s words old new
       by_status answer.Memory x = record { missed = missed; quiet = quiet; untouched = x }
-      by_status s x = record { report = report_of_file (Some file.items) order; due = due; answered = x }
+      by_status s x = record { report = report_of_file is_built_event (Some file.items) order; due = due; answered = x }
 
     -- the desk gave none
     pub fault_story : (fault : DeskFault) (status : Status) → Agrees old.desk.files order.image most (Err fault)
@@ -115,7 +116,7 @@ module _ (words : List (List ℕ)) (old new : Outside) where
         (inl (record {
           files = files;
           agrees = files_agree old.desk.files None;
-          is = sym (ap (λ n. report_of_order n files) named ∙ ap (λ file. report_of_file file order) (none old.desk.files agrees));
+          is = sym (ap (λ n. report_of_order is_built_event n files) named ∙ ap (λ file. report_of_file is_built_event file order) (none old.desk.files agrees));
           missed = missed;
           quiet = failed;
         })) a.1

@@ -14,6 +14,7 @@ use Rattle.bn_model.specs.Running.{Course}
 use Rattle.bn_model.specs.Spelling.{text_of}
 use Rattle.bn_model.specs.State.{State}
 use Rattle.bn_model.specs.Words.{RunOrder, order_of}
+use Rattle.bn_machine.specs.Built.{is_built_event}
 use Rattle.bn_machine.specs.Headline.{CountsMiss, IsDue, IsQuiet, Outside, Promise, WritesReport}
 use Rattle.bn_machine.specs.Story.{Answers, CountsSinkFault, IsStory, WasDue}
 use Rattle.bn_machine.specs.Telling.{FinishesRun}
@@ -73,39 +74,39 @@ course_found ending.Limit last = λ e. cc
 course_found ending.Unbuilt last = λ e. cc
 
 -- no report of files tells a fault of the desk
-pub no_desk_fault : (words : List (List ℕ)) (files : Files) → (report_of words files).status ≢ answer.DeskFault
+pub no_desk_fault : (words : List (List ℕ)) (files : Files) → (report_of is_built_event words files).status ≢ answer.DeskFault
 unfolding report_of
 no_desk_fault words files = of_order (order_of words) where
-  of_load : (load : Load) (order : RunOrder) → (report_of_load load order).status ≢ answer.DeskFault
+  of_load : (load : Load) (order : RunOrder) → (report_of_load is_built_event load order).status ≢ answer.DeskFault
   of_load Unbuilt order = λ e. cc
   of_load (Faulty fault) order = λ e. cc
   of_load (Ram bytes) order = course_status _ _
 
-  of_file : (file : Option (List ℕ)) (order : RunOrder) → (report_of_file file order).status ≢ answer.DeskFault
+  of_file : (file : Option (List ℕ)) (order : RunOrder) → (report_of_file is_built_event file order).status ≢ answer.DeskFault
   of_file None order = λ e. cc
   of_file (Some file) order = of_load (load_of most_image_bytes (4096 * order.ram_pages) file) order
 
-  of_order : (order : Option RunOrder) → (report_of_order order files).status ≢ answer.DeskFault
+  of_order : (order : Option RunOrder) → (report_of_order is_built_event order files).status ≢ answer.DeskFault
   of_order None = λ e. cc
   of_order (Some order) = of_file (files order.image) order
 
 -- a file that is there isn't missing
-pub file_found : (file : List ℕ) (order : RunOrder) → (report_of_file (Some file) order).status ≢ answer.NoFile
+pub file_found : (file : List ℕ) (order : RunOrder) → (report_of_file is_built_event (Some file) order).status ≢ answer.NoFile
 file_found file order = of_load (load_of most_image_bytes (4096 * order.ram_pages) file) where
-  of_load : (load : Load) → (report_of_load load order).status ≢ answer.NoFile
+  of_load : (load : Load) → (report_of_load is_built_event load order).status ≢ answer.NoFile
   of_load Unbuilt = λ e. cc
   of_load (Faulty fault) = λ e. cc
   of_load (Ram bytes) = course_found _ _
 
 -- a report of a missing file has one text
-pub missing_text : (words : List (List ℕ)) (files : Files) → (report_of words files).status ≡ answer.NoFile → (report_of words files).text ≡ codes "missing image\n"
+pub missing_text : (words : List (List ℕ)) (files : Files) → (report_of is_built_event words files).status ≡ answer.NoFile → (report_of is_built_event words files).text ≡ codes "missing image\n"
 unfolding report_of
 missing_text words files = of_order (order_of words) where
-  of_file : (file : Option (List ℕ)) (order : RunOrder) → (report_of_file file order).status ≡ answer.NoFile → (report_of_file file order).text ≡ codes "missing image\n"
+  of_file : (file : Option (List ℕ)) (order : RunOrder) → (report_of_file is_built_event file order).status ≡ answer.NoFile → (report_of_file is_built_event file order).text ≡ codes "missing image\n"
   of_file None order e = refl
   of_file (Some file) order e = absurd (file_found file order e)
 
-  of_order : (order : Option RunOrder) → (report_of_order order files).status ≡ answer.NoFile → (report_of_order order files).text ≡ codes "missing image\n"
+  of_order : (order : Option RunOrder) → (report_of_order is_built_event order files).status ≡ answer.NoFile → (report_of_order is_built_event order files).text ≡ codes "missing image\n"
   of_order None e = cc
   of_order (Some order) e = of_file (files order.image) order e
 

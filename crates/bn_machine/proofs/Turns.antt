@@ -11,9 +11,10 @@ use Rattle.bn_model.specs.Decision.{Asked, Decision, Unfetched}
 use Rattle.bn_model.specs.Decoding.{insn_of}
 use Rattle.bn_model.specs.Spelling.{text_of}
 use Rattle.bn_model.specs.State.{Hart, State, asker, hart_at, memory}
-use Rattle.bn_model.specs.Stepping.{after_turn, is_built_turn, lines_of_turn}
+use Rattle.bn_model.specs.Stepping.{after_turn, lines_of_turn}
 use Rattle.bn_model.specs.Switching.{stopped_at}
 use Rattle.bn_machine.specs.declared.unbuilt.Unbuilt.{Unbuilt}
+use Rattle.bn_machine.specs.Built.{is_built_turn}
 use Rattle.bn_machine.specs.Making.{IsMade, IsTurn, Makes, MakesAsked, MakesTurn}
 use Rattle.bn_machine.specs.Outside.{hart_outside}
 

@@ -8,7 +8,8 @@ use Rattle.bn_edge.specs.Accounts.{DeskAccount, SinkAccount}
 use Rattle.bn_edge.specs.Counts.{CanCount, IsToldBy, Rises, Stays}
 use Rattle.bn_edge.specs.Files.{file_named}
 use Rattle.bn_edge.specs.Written.{Writes, WritesFront}
-use Rattle.bn_model.specs.Reporting.{Files, Report, desk_failed, report_of}
+use Rattle.bn_model.specs.Reporting.{Files, Report, desk_failed}
+use Rattle.bn_machine.specs.Built.{report_of}
 
 -- the words as lists of bytes
 abbrev pub bytes_of_words : List (Vec ℕ Global) → List (List ℕ)

@@ -5,8 +5,9 @@ use Rattle.bn_model.specs.Deciding.{decision_of, decision_of_act, decision_of_as
 use Rattle.bn_model.specs.Decision.{Asked, Decision}
 use Rattle.bn_model.specs.Spelling.{text_of}
 use Rattle.bn_model.specs.State.{State, hart_at}
-use Rattle.bn_model.specs.Stepping.{after_turn, is_built_turn, lines_of_turn}
+use Rattle.bn_model.specs.Stepping.{after_turn, lines_of_turn}
 use Rattle.bn_machine.specs.declared.unbuilt.Unbuilt.{Unbuilt}
+use Rattle.bn_machine.specs.Built.{is_built_turn}
 use Rattle.bn_machine.specs.Outside.{hart_outside}
 
 -- the state after hart h's turn that comes to this, and the text of its lines

@@ -3,6 +3,7 @@ ghost use Rattle.std.specs.Prelude.{◌≡◌, ◌≢◌, ◌+◌, ◌*◌, ◌^
 ghost use Rattle.bn_model.specs.Reporting as flat;
 ghost use Rattle.bn_model.specs.Loading.{Ram};
 ghost use Rattle.bn_model.specs.Running.{course, turns};
+ghost use Rattle.bn_machine.specs.Built.{is_built_event};
 ghost use Rattle.bn_machine.specs.Loads.{raw_image};
 ghost use Rattle.bn_machine.specs.Story.{Answers, CountsSinkFault};
 ghost use Rattle.bn_machine.specs.Orders.{CanRun, plain};
@@ -43,7 +44,7 @@ pub fn say<O: Sink>(out: &mut O, text: &[u8], status: Status) -> Status
 #[tactic(auto, unfolding(bn_model::specs::Reporting::most_image_bytes))]
 pub fn serve_file<O: Sink>(alloc: Global, order: &RunOrder<'_>, file: &[u8], out: &mut O) -> Status
     requires { CanRun order.now }
-    ensures answers { Answers result (flat.report_of_file (Some file.now) (plain order.now))
+    ensures answers { Answers result (flat.report_of_file is_built_event (Some file.now) (plain order.now))
         (O.account out.old) (O.account out.new) }
     ensures counted { CountsSinkFault result (O.account out.old).faults (O.account out.new).faults }
 {
@@ -99,7 +100,7 @@ fn serve_image<O: Sink>(alloc: Global, order: &RunOrder<'_>, bytes: Vec<u8>, out
     requires order { CanRun order.now }
     requires whole { length bytes.items ≡ 4096 * order.now.ram_pages }
     ensures answers { Answers result
-        (flat.report_of_load (Ram (raw_image bytes.items)) (plain order.now))
+        (flat.report_of_load is_built_event (Ram (raw_image bytes.items)) (plain order.now))
         (O.account out.old) (O.account out.new) }
     ensures counted { CountsSinkFault result (O.account out.old).faults (O.account out.new).faults }
 {
@@ -129,7 +130,7 @@ fn serve_machine<O: Sink, L: Ledger>(
     requires parts { blank.parts ≡ L.parts }
     requires some { 0 < L.parts }
     ensures answers { Answers result
-        (flat.report_of_course (course None machine.state (turns limit)))
+        (flat.report_of_course (course is_built_event None machine.state (turns limit)))
         (O.account out.old) (O.account out.new) }
     ensures counted { CountsSinkFault result (O.account out.old).faults (O.account out.new).faults }
 {

@@ -2,7 +2,6 @@ pub mod Acceptances
 pub mod AccessLemmas
 pub mod ActRanges
 pub mod ActingLemmas
-pub mod AdmissionLemmas
 pub mod AsleepKept
 pub mod BlankDecisions
 pub mod BlankLemmas

@@ -5,41 +5,41 @@ use Rattle.bn_types.specs.declared.ending.Ending.TheVariants.{Shutdown, Limit, U
 use Rattle.bn_types.specs.declared.event.Event.{Event}
 use Rattle.bn_types.specs.declared.event.Event.TheVariants.{Turn}
 use Rattle.bn_types.specs.declared.line.Line.{Line}
-use Rattle.bn_model.specs.Running.{Blind, Course, Run, course, onward, run, state_before, turns, unless_off}
+use Rattle.bn_model.specs.Running.{Blind, Built, Course, Run, course, onward, run, state_before, turns, unless_off}
 use Rattle.bn_model.specs.State.{State}
-use Rattle.bn_model.specs.Stepping.{step, lines, is_built_event}
+use Rattle.bn_model.specs.Stepping.{step, lines}
 
 -- ---- a course
 
 -- a state that is off makes no events
-pub course_off : (s : State) (es : List Event) → s.off ≡ true → course None s es ≡ record { told = []; ending = Shutdown; last = s }
+pub course_off : (is_built : Built) (s : State) (es : List Event) → s.off ≡ true → course is_built None s es ≡ record { told = []; ending = Shutdown; last = s }
 unfolding course
-course_off s [] e = rw e refl
-course_off s (event ∷ es) e = rw e refl
+course_off is_built s [] e = rw e refl
+course_off is_built s (event ∷ es) e = rw e refl
 
 -- no events
-pub course_none : (s : State) → s.off ≡ false → course None s [] ≡ record { told = []; ending = Limit; last = s }
+pub course_none : (is_built : Built) (s : State) → s.off ≡ false → course is_built None s [] ≡ record { told = []; ending = Limit; last = s }
 unfolding course
-course_none s e = rw e refl
+course_none is_built s e = rw e refl
 
 -- a run that goes on after an event, if it is built
-abbrev made_if : State → Event → List Event → Bool → Course
-made_if s e es built = onward built s (lines s e) (course None (step s e) es)
+abbrev made_if : Built → State → Event → List Event → Bool → Course
+made_if is_built s e es built = onward built s (lines s e) (course is_built None (step s e) es)
 
-unless_on : (s : State) (e : Event) (es : List Event) → s.off ≡ false → course None s (e ∷ es) ≡ made_if s e es (is_built_event s e)
+unless_on : (is_built : Built) (s : State) (e : Event) (es : List Event) → s.off ≡ false → course is_built None s (e ∷ es) ≡ made_if is_built s e es (is_built s e)
 unfolding course
-unless_on s e es on = ap (λ off. unless_off off s (made_if s e es (is_built_event s e))) on
+unless_on is_built s e es on = ap (λ off. unless_off off s (made_if is_built s e es (is_built s e))) on
 
 -- an event that isn't built ends the run before it
-pub course_unbuilt : (s : State) (e : Event) (es : List Event) → s.off ≡ false → is_built_event s e ≡ false
-    → course None s (e ∷ es) ≡ record { told = []; ending = Unbuilt; last = s }
-course_unbuilt s e es on built = unless_on s e es on ∙ ap (made_if s e es) built
+pub course_unbuilt : (is_built : Built) (s : State) (e : Event) (es : List Event) → s.off ≡ false → is_built s e ≡ false
+    → course is_built None s (e ∷ es) ≡ record { told = []; ending = Unbuilt; last = s }
+course_unbuilt is_built s e es on built = unless_on is_built s e es on ∙ ap (made_if is_built s e es) built
 
 -- a built event, and the run of the others
-pub course_built : (s : State) (e : Event) (es : List Event) → s.off ≡ false → is_built_event s e ≡ true
-    → course None s (e ∷ es)
-    ≡ (let rest = course None (step s e) es in record rest { told = lines s e ++ rest.told })
-course_built s e es on built = unless_on s e es on ∙ ap (made_if s e es) built
+pub course_built : (is_built : Built) (s : State) (e : Event) (es : List Event) → s.off ≡ false → is_built s e ≡ true
+    → course is_built None s (e ∷ es)
+    ≡ (let rest = course is_built None (step s e) es in record rest { told = lines s e ++ rest.told })
+course_built is_built s e es on built = unless_on is_built s e es on ∙ ap (made_if is_built s e es) built
 
 -- ---- runs of some events
 

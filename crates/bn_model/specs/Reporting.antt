@@ -14,7 +14,7 @@ use Rattle.bn_types.specs.declared.image_sort.ImageSort.{ImageSort}
 use Rattle.bn_types.specs.declared.image_sort.ImageSort.TheVariants as image_sort
 use Rattle.bn_model.specs.Loading.{Load, Ram, Faulty, Unbuilt, load_of}
 use Rattle.bn_model.specs.Opening.{opening}
-use Rattle.bn_model.specs.Running.{Course, course, turns}
+use Rattle.bn_model.specs.Running.{Built, Course, course, turns}
 use Rattle.bn_model.specs.Spelling.{spelling, text_of}
 use Rattle.bn_model.specs.Memory.{visible}
 use Rattle.bn_model.specs.State.{State, memory}
@@ -81,27 +81,28 @@ fault_line fault = codes "image " ++ sort_word fault.sort ++ codes " " ++ decima
     "\n"
 
 -- the run of an order, once its image is loaded
-abbrev pub report_of_load : Load → RunOrder → Report
-report_of_load Unbuilt order = unbuilt
-report_of_load (Faulty fault) order = record { status = status.Image; text = fault_line fault }
-report_of_load (Ram image) order =
-    report_of_course (course None (opening order.ram_pages 1 image []) (turns order.steps))
+abbrev pub report_of_load : Built → Load → RunOrder → Report
+report_of_load is_built Unbuilt order = unbuilt
+report_of_load is_built (Faulty fault) order = record { status = status.Image; text = fault_line fault }
+report_of_load is_built (Ram image) order =
+    report_of_course (course is_built None (opening order.ram_pages 1 image []) (turns order.steps))
 
 abbrev pub missing : Report
 missing = record { status = status.NoFile; text = codes "missing image\n" }
 
-abbrev pub report_of_file : Option (List ℕ) → RunOrder → Report
-report_of_file None order = missing
-report_of_file (Some file) order = report_of_load
+abbrev pub report_of_file : Built → Option (List ℕ) → RunOrder → Report
+report_of_file is_built None order = missing
+report_of_file is_built (Some file) order = report_of_load is_built
     (load_of most_image_bytes (4096 * order.ram_pages) file) order
 
-abbrev pub report_of_order : Option RunOrder → Files → Report
-report_of_order None files = unbuilt
-report_of_order (Some order) files = report_of_file (files order.image) order
+abbrev pub report_of_order : Built → Option RunOrder → Files → Report
+report_of_order is_built None files = unbuilt
+report_of_order is_built (Some order) files =
+    report_of_file is_built (files order.image) order
 
 -- the status and the text of a call with these words
-unfoldable pub report_of : List (List ℕ) → Files → Report
-report_of words files = report_of_order (order_of words) files
+unfoldable pub report_of : Built → List (List ℕ) → Files → Report
+report_of is_built words files = report_of_order is_built (order_of words) files
 
 -- where the image can't be read
 abbrev pub desk_failed : Report

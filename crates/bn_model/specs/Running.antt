@@ -10,7 +10,7 @@ use Rattle.bn_types.specs.declared.mod_id.ModId.{ModId}
 use Rattle.bn_model.specs.Blanking.{blank}
 use Rattle.bn_model.specs.Spelling.{text_of}
 use Rattle.bn_model.specs.State.{State}
-use Rattle.bn_model.specs.Stepping.{step, lines, is_built_event}
+use Rattle.bn_model.specs.Stepping.{step, lines}
 
 -- ---- blinding
 
@@ -44,6 +44,10 @@ run blind s (event ∷ events) =
 
 -- ---- a whole course
 
+-- which events are built, of those that may come in a state
+abbrev pub Built : Type 0
+Built = State → Event → Bool
+
 -- the lines of a run, why it stopped, and the state that it left
 pub record Course : Type 0 where
   pub told : List Line
@@ -61,13 +65,13 @@ abbrev pub unless_off : Bool → State → Course → Course
 unless_off true s rest = record { told = []; ending = Shutdown; last = s }
 unless_off false s rest = rest
 
-unfoldable pub course : Option Blind → State → List Event → Course
-course blind s [] = unless_off s.off s (record { told = []; ending = Limit; last = s })
-course blind s (event ∷ events) =
+unfoldable pub course : Built → Option Blind → State → List Event → Course
+course is_built blind s [] = unless_off s.off s (record { told = []; ending = Limit; last = s })
+course is_built blind s (event ∷ events) =
     let before = state_before blind s in
     unless_off s.off s
-    (onward (is_built_event before event) before (lines before event)
-    (course blind (step before event) events))
+    (onward (is_built before event) before (lines before event)
+    (course is_built blind (step before event) events))
 
 -- the first n events of a run without a script: turns of hart 0
 unfoldable pub turns : ℕ → List Event

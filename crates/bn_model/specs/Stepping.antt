@@ -21,7 +21,6 @@ use Rattle.bn_model.specs.Decision.{Decision, Rest, Trap, Deny, Next, Set, Jump,
 use Rattle.bn_model.specs.Each.{each}
 use Rattle.bn_model.specs.Bits.{is_set}
 use Rattle.bn_model.specs.Evicting.{evicted_rows, pages_left, rows_left}
-use Rattle.bn_model.specs.Hypervisor.{not_supported}
 use Rattle.bn_model.specs.Memory.{visible}
 use Rattle.bn_model.specs.Refusals.{minus, minus_in_64_bits}
 use Rattle.bn_model.specs.Rows.{new_row, owners, row_of, saved_of, with_row}
@@ -226,30 +225,3 @@ Fits s (Turn h) = h < length s.harts
 Fits s (Key byte) = byte < 2 ^ 8
 Fits s (Poke page offset byte) = offset < 4096
 Fits s (Peek page offset) = offset < 4096
-
--- ---- what is built
-
--- the answer of a call that there isn't
-abbrev pub is_built_answer : (error : ℕ) → Bool
-is_built_answer error = error == not_supported
-
--- what the code can do already; a turn that isn't built changes nothing and has no line
-abbrev pub is_built_turn : Decision → Bool
-is_built_turn Rest = true
-is_built_turn (Trap cause value) = true
-is_built_turn (Deny kind va) = true
-is_built_turn Next = true
-is_built_turn (Set rd value) = true
-is_built_turn (Jump target rd link) = true
-is_built_turn (Store place width value) = true
-is_built_turn (Csr rd old csrs) = true
-is_built_turn ReturnFromTrap = true
-is_built_turn (Put byte) = true
-is_built_turn (Answer error) = is_built_answer error
-is_built_turn ShutDown = true
-is_built_turn decision = false
-
--- of the events only turns are built
-unfoldable pub is_built_event : State → Event → Bool
-is_built_event s (Turn h) = is_built_turn (decision_of s h)
-is_built_event s event = false

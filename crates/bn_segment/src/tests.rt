@@ -119,7 +119,9 @@ fn a_segment_with_all_sorts_is_written_and_read_back(rt: HostRuntime) -> Result<
     let Ok(back) = read(&text) else {
         panic!(rt; "the text is refused");
     };
+    assert_eq!(rt; back.pages.len(), 3);
     assert!(rt; back.pages[2] == segment.pages[2]);
+    assert_eq!(rt; back.partners.len(), 2);
     assert!(rt; back.partners[1] == segment.partners[1]);
     Ok(())
 }

@@ -1,23 +1,42 @@
 -- The memory of a unit, and what its accesses come to.
-use Rattle.std.specs.Prelude.{◌≡◌, ◌≢◌, ℕ, ◌%◌, ◌<◌, None, Result, Ok, Err}
+use Rattle.std.specs.Prelude.{◌≡◌, ◌≢◌, ℕ, ◌%◌, ◌<◌, Bool, true, false, List, Option, Some, None, Result, Ok, Err}
 use Rattle.bn_types.specs.Numbers.{bytes_of}
 use Rattle.bn_types.specs.declared.fault.Fault.{Fault}
 use Rattle.bn_types.specs.declared.width.Width.{Width}
 use Rattle.bn_model.specs.declared.place.Place.{Place}
-use Rattle.bn_model.specs.Memory.{Memory, unowned}
+use Rattle.bn_model.specs.declared.owner.Owner.{Owner}
+use Rattle.bn_model.specs.Memory.{Memory}
 use Rattle.bn_model.specs.Nesting.{Nested, contents, place}
 
--- what stands behind a unit: the machine's frames, with the nested tables in them
+-- what stands behind a unit
 pub record Backing : Type 0 where
+  -- the machine's frames, with the nested tables in them
   pub nest : Nested
+  -- the live modules, with what they declare
+  pub live : List Owner
 
--- the guest's memory; no module is live yet
+-- the guest's memory
 abbrev pub memory_of : Backing → Memory
-memory_of b = unowned (contents b.nest)
+memory_of b = record { pages = contents b.nest; owners = b.live }
 
 -- every page of RAM has a frame
 abbrev pub AllPlaced : Nested → Type 0
 AllPlaced nest = (page : ℕ) → page < nest.ram → place nest page ≢ None
+
+-- every page has a frame, and the index of owners has a place for each
+pub record IsBacked (nest : Nested) (indexed : ℕ) : Type 0 where
+  pub placed : AllPlaced nest
+  pub indexes : indexed ≡ nest.ram
+
+-- what can be read of a page: its bytes, or nothing
+abbrev pub bytes_if : Bool → List ℕ → Option (List ℕ)
+bytes_if true bytes = Some bytes
+bytes_if false bytes = None
+
+-- three table words where it is read
+abbrev pub words_if : Bool → ℕ
+words_if true = 3
+words_if false = 0
 
 -- an aligned access of this width at a place in RAM
 pub record IsWithin (ram : ℕ) (place : Place) (width : Width) : Type 0 where

@@ -1,19 +1,20 @@
-ghost use Rattle.std.specs.Prelude.{◌≡◌, ℕ, List, ◌+◌, ◌%◌, ◌^◌, ◌*◌, ◌<◌, ◌≤◌, ◌==◌, Some, Err, IfOk, length};
+ghost use Rattle.std.specs.Prelude.{◌≡◌, ℕ, List, [], ◌∷◌, ◌++◌, ◌+◌, ◌%◌, ◌^◌, ◌*◌, ◌<◌, ◌≤◌, ◌==◌, Some, Err, IfOk, length};
 ghost use Rattle.bn_types.specs.Numbers.{AreWhole, bytes_of};
 ghost use Rattle.bn_model.specs.Accessing.{access, answer_of_load, guest_words, number_on, pages_after_store, pages_with, words_of_access};
 ghost use Rattle.bn_model.specs.Accessing as accessing;
-ghost use Rattle.bn_model.specs.Admission as admission;
-ghost use Rattle.bn_model.specs.Memory.{unowned};
 ghost use Rattle.bn_model.specs.Nesting.{IsNested, contents, place, table_frames};
 ghost use Rattle.bn_model.specs.Nesting as nesting;
 ghost use Rattle.bn_model.specs.CsrFile.{HasMode};
+ghost use Rattle.bn_model.specs.Rows.{owner_of};
 ghost use Rattle.bn_model.specs.Walking.{guest_page};
 ghost use Rattle.bn_model.specs.Walking as walking;
+ghost use Rattle.bn_shadow.specs.Counting.{LieInRam};
 ghost use Rattle.bn_unit.specs.Memory.{AllPlaced, Completes, IsWithin, memory_of};
 
 use crate::View;
 use bn_model::Place;
-use bn_types::{Asker, Cause, Fault, Frame, Gpn, Kind, ModId, NoMemory, Steps, Width};
+use bn_shadow::Shadow;
+use bn_types::{Asker, Cause, Fault, Frame, Gpn, Kind, NoMemory, Row, Steps, Vpn, Width};
 use g_walk::walk;
 use n_walk::Nest;
 use std::alloc::Global;
@@ -23,35 +24,37 @@ use std::sync::ledger::Ledger;
 /// The physical page number at which RAM begins, that of guest physical address 0x80000000.
 const RAM_START: u64 = 0x80000;
 
-/// The machine's memory as harts access it: by the guest's tables, and by the nested tables that
-/// lead each guest page to a machine frame.
+/// The machine's memory as harts access it: by the guest's tables, by the nested tables that lead
+/// each guest page to a machine frame, and by the declarations of live modules.
 #[derive(Drop)]
 pub struct Unit {
     nest: Nest,
+    shadow: Shadow,
 }
 
 impl Model for Unit {
-    ghost use Rattle.bn_unit.specs.Memory.{AllPlaced, Backing};
+    ghost use Rattle.bn_unit.specs.Memory.{Backing, IsBacked};
 
     ghost Value = { Backing };
 
-    ghost view = { λ u. record { nest = u.nest } };
+    ghost view = { λ u. record { nest = u.nest; live = u.shadow.live } };
 
-    ghost invariant = { λ u. AllPlaced u.nest };
+    ghost invariant = { λ u. IsBacked u.nest u.shadow.ram };
 }
 
 impl Unit {
     /// The unit over a nest that was built for this many pages of RAM, from 1 to 4,096, all of them
-    /// placed, and that has more frames beside its tables than pages. There are 1 to 4 harts. It
-    /// takes no memory yet.
+    /// placed, and that has more frames beside its tables than pages. There are 1 to 4 harts. No
+    /// module is live.
     pub fn build(alloc: Global, nest: Nest, ram_pages: u32, harts: u8) -> Result<Unit, NoMemory>
         requires ram { nest.ram ≡ ram_pages }
         requires room { table_frames nest.ram + nest.ram < length nest.frames }
         requires harts { (0 < harts) × (harts ≤ 4) }
         requires placed { AllPlaced nest }
-        ensures { IfOk result (λ unit. unit.nest ≡ nest) }
+        ensures { IfOk result (λ unit. unit ≡ record { nest = nest; live = [] }) }
     {
-        Ok(Unit { nest })
+        let shadow = Shadow::empty(alloc, ram_pages)?;
+        Ok(Unit { nest, shadow })
     }
 
     /// How many pages RAM has, from 1 to 4,096.
@@ -72,6 +75,7 @@ impl Unit {
         ensures placed { AllPlaced self.now.nest }
         ensures whole { AreWhole (contents self.now.nest) }
         ensures count { length (contents self.now.nest) ≡ self.now.nest.ram }
+        ensures range { (0 < self.now.nest.ram) × (self.now.nest.ram ≤ 4096) }
     {
         // For the prover: what holds of every nest of tables.
         self.nest.facts();
@@ -176,11 +180,24 @@ impl Unit {
         Ok(())
     }
 
+    /// Enters the declarations of a launched module. Fewer than 15 modules are live, and its pages
+    /// lie in RAM.
+    pub fn own(&mut self, row: &Row)
+        requires room { length self.old.live < 15 }
+        requires inside { LieInRam self.old.nest.ram row.now.judged.decls.items }
+        ensures { self.new ≡ record self.old
+            { live = self.old.live ++ owner_of row.now ∷ [] } }
+    {
+        // For the prover: reading a field tells what the invariant says of it.
+        let _nest = &self.nest;
+        self.shadow.add_row(row);
+    }
+
     /// The guest's pages as the untrusted world reads them.
     pub fn view(&self) -> View<'_>
-        ensures { result ≡ self.now.nest }
+        ensures { result ≡ self.now }
     {
-        View::of(&self.nest)
+        View::of(&self.nest, &self.shadow)
     }
 
     /// The place that an access of the kind and width reaches.
@@ -204,7 +221,6 @@ impl Unit {
     {
         // For the prover: what holds of every unit.
         self.facts();
-        let ram_pages = self.nest.ram_pages();
         if !is_aligned(kind, va, width) {
             return Err(fault_at(va, misaligned(kind)));
         }
@@ -218,8 +234,31 @@ impl Unit {
             who.mxr,
             steps,
         ) {
-            Ok(leaf) => find_place(ram_pages, who, kind, va, leaf.ppn),
+            Ok(leaf) => self.find_place(who, kind, va, leaf.ppn),
             Err(cause) => Err(fault_at(va, cause)),
+        }
+    }
+
+    /// The place of an address that leads to this physical page.
+    fn find_place(&self, who: &Asker, kind: Kind, va: u64, ppn: u64) -> Result<Place, Fault>
+        ensures place { (pages : List (List ℕ)) → length pages ≡ self.now.nest.ram → result
+            ≡ accessing.place_on (record { pages = pages; owners = self.now.live }) who.now kind va
+            (guest_page ppn) }
+        ensures page { IfOk result (λ place. place.page.0 < self.now.nest.ram) }
+        ensures offset { IfOk result (λ place. place.offset ≡ va % 4096) }
+    {
+        let ram_pages = u64::from(self.nest.ram_pages());
+        if ppn < RAM_START || ppn - RAM_START >= ram_pages {
+            return Err(fault_at(va, access_fault(kind)));
+        }
+        let page = Gpn((ppn - RAM_START) as u32);
+        if self.shadow.admits(who.module, Vpn(va / 4096), page, kind) {
+            Ok(Place {
+                page,
+                offset: (va % 4096) as u16,
+            })
+        } else {
+            Err(denial_of(va, kind, page))
         }
     }
 
@@ -252,6 +291,7 @@ impl Unit {
         ensures written { contents self.new.nest ≡ pages_with (contents self.old.nest) width value
             place }
         ensures nested { IsNested self.new.nest }
+        ensures live { self.new.live ≡ self.old.live }
         ensures ram { self.new.nest.ram ≡ self.old.nest.ram }
         ensures places { (page : ℕ) → nesting.place self.new.nest page ≡ nesting.place
             self.old.nest page }
@@ -282,38 +322,6 @@ fn is_multiple(va: u64, width: Width) -> bool
         Width::B2 => va % 2 == 0,
         Width::B4 => va % 4 == 0,
         Width::B8 => va % 8 == 0,
-    }
-}
-
-/// The place of an address that leads to this physical page, in a RAM of so many pages.
-fn find_place(ram_pages: u32, who: &Asker, kind: Kind, va: u64, ppn: u64) -> Result<Place, Fault>
-    ensures place { (pages : List (List ℕ)) → length pages ≡ ram_pages →
-        result ≡ accessing.place_on (unowned pages) who.now kind va (guest_page ppn) }
-    ensures page { IfOk result (λ place. place.page.0 < ram_pages) }
-    ensures offset { IfOk result (λ place. place.offset ≡ va % 4096) }
-{
-    if ppn < RAM_START || ppn - RAM_START >= u64::from(ram_pages) {
-        return Err(fault_at(va, access_fault(kind)));
-    }
-    let page = Gpn((ppn - RAM_START) as u32);
-    if may_leave(who.module, kind) {
-        Ok(Place {
-            page,
-            offset: (va % 4096) as u16,
-        })
-    } else {
-        Err(denial_of(va, kind, page))
-    }
-}
-
-/// Whether a module may access pages that it doesn't declare, where nobody owns them: it runs no
-/// code there.
-fn may_leave(id: ModId, kind: Kind) -> bool
-    ensures { result ≡ admission.may_leave id.0 kind }
-{
-    match kind {
-        Kind::Fetch => id.0 == 0,
-        Kind::Load | Kind::Store => true,
     }
 }
 

@@ -6,11 +6,11 @@ ghost use Rattle.bn_model.specs.CsrFile.{csr_done};
 ghost use Rattle.bn_model.specs.Deciding.{counters_of, decision_of_csr, decision_of_fault, decision_of_load, decision_of_secure, decision_of_store};
 ghost use Rattle.bn_model.specs.Decision as turn;
 ghost use Rattle.bn_model.specs.Decision.{Decision};
-ghost use Rattle.bn_model.specs.Stepping as flat;
 ghost use Rattle.bn_model.specs.InsnRanges.{IsActInRange};
 ghost use Rattle.bn_model.specs.Interrupts.{wires_of};
 ghost use Rattle.bn_model.specs.Legality as flat_legality;
 ghost use Rattle.bn_model.specs.State.{asker, memory};
+ghost use Rattle.bn_machine.specs.Built.{is_built_turn};
 ghost use Rattle.bn_machine.specs.Making.{IsMade, Makes, MakesAct};
 ghost use Rattle.bn_machine.specs.Outside.{hart_outside};
 ghost use Rattle.bn_machine.specs.Within.{JumpsAligned};
@@ -263,7 +263,7 @@ impl Machine {
         requires hart { h < length self.old.state.harts }
         requires clock { self.old.state.clock < 2 ^ 64 - 1 }
         requires empty { lines.old ≡ [] }
-        ensures made { (d : Decision) → flat.is_built_turn d ≡ false →
+        ensures made { (d : Decision) → is_built_turn d ≡ false →
             Makes result self.old.state self.new.state lines.new h
             (flat_legality.supervisor_only (hart_outside self.old.state h).mode d) }
     {

@@ -4,6 +4,7 @@ ghost use Rattle.bn_edge.specs.Counts.{CountsRefusals};
 ghost use Rattle.bn_edge.specs.Written.{WritesFront};
 ghost use Rattle.bn_model.specs.Running.{course, turns};
 ghost use Rattle.bn_model.specs.Spelling.{text_of};
+ghost use Rattle.bn_machine.specs.Built.{is_built_event};
 ghost use Rattle.bn_machine.specs.Telling.{FinishesRun, StopsRun};
 
 use crate::LineBuf;
@@ -28,12 +29,12 @@ impl Machine {
         requires on { self.old.state.off ≡ false }
         requires clock { self.old.state.clock + limit < 2 ^ 64 }
         ensures finished { IfOk result (λ ending. FinishesRun
-            (course None self.old.state (turns limit)) ending self.new.state
+            (course is_built_event None self.old.state (turns limit)) ending self.new.state
             (O.account out.old) (O.account out.new)) }
         ensures stopped { OnErr result (StopsRun self.old.state self.new.state (turns limit)
             (O.account out.old) (O.account out.new)) }
         ensures front { OnErr result (WritesFront (O.account out.old) (O.account out.new)
-            (text_of (course None self.old.state (turns limit)).told)) }
+            (text_of (course is_built_event None self.old.state (turns limit)).told)) }
         ensures failed { CountsRefusals result
             (O.account out.old).faults (O.account out.new).faults }
     {

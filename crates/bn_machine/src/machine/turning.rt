@@ -9,6 +9,7 @@ ghost use Rattle.bn_model.specs.Spelling.{text_of};
 ghost use Rattle.bn_model.specs.Standing.{StandsFor};
 ghost use Rattle.bn_model.specs.State.{hart_at};
 ghost use Rattle.bn_model.specs.Stepping as flat;
+ghost use Rattle.bn_machine.specs.Built.{is_built_event};
 ghost use Rattle.bn_machine.specs.Making.{MakesAsked, MakesTurn};
 ghost use Rattle.bn_machine.specs.Outside.{hart_outside};
 ghost use Rattle.bn_machine.specs.Within.{JumpsAligned};
@@ -30,7 +31,7 @@ impl Machine {
     /// `Unbuilt` comes exactly where the event needs a part that isn't built yet; then nothing
     /// changes, and
     /// no line is left.
-    #[tactic(auto, unfolding(bn_model::specs::Stepping::step, bn_model::specs::Stepping::lines, bn_model::specs::Stepping::is_built_event))]
+    #[tactic(auto, unfolding(bn_model::specs::Stepping::step, bn_model::specs::Stepping::lines, crate::specs::Built::is_built_event))]
     pub fn turn<L: Ledger>(
         &mut self,
         event: Event,
@@ -40,7 +41,7 @@ impl Machine {
         requires on { self.old.state.off ≡ false }
         requires fits { flat.Fits self.old.state event }
         requires clock { self.old.state.clock < 2 ^ 64 - 1 }
-        ensures built { IsOk result ↔ IsTrue (flat.is_built_event self.old.state event) }
+        ensures built { IsOk result ↔ IsTrue (is_built_event self.old.state event) }
         ensures stepped { OnOk result (self.new.state ≡ flat.step self.old.state event) }
         ensures told { OnOk result (lines.new ≡ text_of (flat.lines self.old.state event)) }
         ensures unchanged { OnErr result (self.new.state ≡ self.old.state) }

@@ -3,7 +3,7 @@ use Rattle.bn_edge.specs.Written.{appended, WritesFront}
 use Rattle.bn_types.specs.declared.event.Event.TheVariants.{Turn}
 use Rattle.bn_model.specs.Running.{turns}
 use Rattle.bn_model.specs.State.{State}
-use Rattle.bn_model.specs.Stepping.{is_built_event}
+use Rattle.bn_machine.specs.Built.{is_built_event}
 use Rattle.bn_machine.specs.Telling.{StopsRun}
 use Rattle.bn_machine.proofs.Runs.{underway_at_start, underway_more, finished_off, finished_unbuilt, finished_limit, stopped, front_written, false_unless, on_err}
 use Rattle.bn_machine.proofs.Wrote.{stays_on}

@@ -1,0 +1,39 @@
+-- What the code can do already, and what the program does as far as it is built.
+use Rattle.std.specs.Prelude.{ℕ, ◌==◌, Bool, true, false, List}
+use Rattle.bn_types.specs.declared.event.Event.{Event}
+use Rattle.bn_types.specs.declared.event.Event.TheVariants.{Turn}
+use Rattle.bn_model.specs.Deciding.{decision_of}
+use Rattle.bn_model.specs.Decision.{Decision, Rest, Trap, Deny, Next, Set, Jump, Store, Csr, ReturnFromTrap, Put, Answer, ShutDown}
+use Rattle.bn_model.specs.Hypervisor.{not_supported}
+use Rattle.bn_model.specs.Reporting as flat
+use Rattle.bn_model.specs.Reporting.{Files, Report}
+use Rattle.bn_model.specs.State.{State}
+
+-- the answer of a call that there isn't
+abbrev pub is_built_answer : (error : ℕ) → Bool
+is_built_answer error = error == not_supported
+
+-- what the code can do already; a turn that isn't built changes nothing and has no line
+abbrev pub is_built_turn : Decision → Bool
+is_built_turn Rest = true
+is_built_turn (Trap cause value) = true
+is_built_turn (Deny kind va) = true
+is_built_turn Next = true
+is_built_turn (Set rd value) = true
+is_built_turn (Jump target rd link) = true
+is_built_turn (Store place width value) = true
+is_built_turn (Csr rd old csrs) = true
+is_built_turn ReturnFromTrap = true
+is_built_turn (Put byte) = true
+is_built_turn (Answer error) = is_built_answer error
+is_built_turn ShutDown = true
+is_built_turn decision = false
+
+-- of the events only turns are built
+unfoldable pub is_built_event : State → Event → Bool
+is_built_event s (Turn h) = is_built_turn (decision_of s h)
+is_built_event s event = false
+
+-- the status and the text of a call with these words
+abbrev pub report_of : List (List ℕ) → Files → Report
+report_of words files = flat.report_of is_built_event words files
