@@ -8,7 +8,7 @@ pub use reading::read_line;
 mod fields;
 pub mod laws;
 mod line_buf;
-mod piece;
+mod putting;
 mod readers;
 mod reading;
 #[cfg(test)]

@@ -1,7 +1,10 @@
 ghost use Rattle.std.specs.Prelude.{◌≡◌, ◌+◌, ◌++◌, [], ◌<◌, ◌≤◌, length};
 ghost use Rattle.bn_model.specs.Spelling.{spelling};
 
-use crate::piece::{Piece, put};
+use crate::putting::{
+    begin, begin_on_hart, end, put_byte, put_code, put_digest, put_finish, put_kind, put_number,
+    put_page, put_place, put_request, put_small, put_word,
+};
 use arrayvec::ArrayVec;
 use bn_types::Line;
 use std::marker::Model;
@@ -60,126 +63,118 @@ fn put_line(bytes: &mut ArrayVec<u8, 512>, line: &Line)
     ensures text { bytes.new.items ≡ bytes.old.items ++ spelling line.now }
     ensures short { length bytes.new.items < length bytes.old.items + 128 }
 {
-    use Piece::{Access, Asked, Byte, Code, Ended, Number, Page, Sha, Small, Word};
     match *line {
-        Line::Out { n, h, b } => put(bytes, b"out", &[Number(n), Small(h), Byte(b)]),
+        Line::Out { n, h, b } => {
+            begin_on_hart(bytes, b"out", n, h);
+            put_byte(bytes, b);
+            end(bytes);
+        }
         Line::Deny { n, h, m, w, v } => {
-            put(
-                bytes,
-                b"deny",
-                &[
-                    Number(n),
-                    Small(h),
-                    Number(u64::from(m.0)),
-                    Access(w),
-                    Page(v.0),
-                ],
-            )
+            begin_on_hart(bytes, b"deny", n, h);
+            put_number(bytes, u64::from(m.0));
+            put_kind(bytes, w);
+            put_page(bytes, v.0);
+            end(bytes);
         }
         Line::Stop { n, h, m, p } => {
-            put(
-                bytes,
-                b"stop",
-                &[Number(n), Small(h), Number(u64::from(m.0)), Word(p)],
-            )
+            begin_on_hart(bytes, b"stop", n, h);
+            put_number(bytes, u64::from(m.0));
+            put_word(bytes, p);
+            end(bytes);
         }
-        Line::Trap { n, h, c, p } => put(bytes, b"trap", &[Number(n), Small(h), Word(c), Word(p)]),
+        Line::Trap { n, h, c, p } => {
+            begin_on_hart(bytes, b"trap", n, h);
+            put_word(bytes, c);
+            put_word(bytes, p);
+            end(bytes);
+        }
         Line::Launch { n, h, m, i } => {
-            put(
-                bytes,
-                b"launch",
-                &[Number(n), Small(h), Number(u64::from(m.0)), Sha(i)],
-            )
+            begin_on_hart(bytes, b"launch", n, h);
+            put_number(bytes, u64::from(m.0));
+            put_digest(bytes, i);
+            end(bytes);
         }
-        Line::Call { n, h, f, m, e } => put(
-            bytes,
-            b"call",
-            &[
-                Number(n),
-                Small(h),
-                Number(u64::from(f.0)),
-                Number(u64::from(m.0)),
-                Word(e),
-            ],
-        ),
-        Line::Ret { n, h, m, f, p } => put(
-            bytes,
-            b"ret",
-            &[
-                Number(n),
-                Small(h),
-                Number(u64::from(m.0)),
-                Number(u64::from(f.0)),
-                Word(p),
-            ],
-        ),
+        Line::Call { n, h, f, m, e } => {
+            begin_on_hart(bytes, b"call", n, h);
+            put_number(bytes, u64::from(f.0));
+            put_number(bytes, u64::from(m.0));
+            put_word(bytes, e);
+            end(bytes);
+        }
+        Line::Ret { n, h, m, f, p } => {
+            begin_on_hart(bytes, b"ret", n, h);
+            put_number(bytes, u64::from(m.0));
+            put_number(bytes, u64::from(f.0));
+            put_word(bytes, p);
+            end(bytes);
+        }
         Line::Resume { n, h, m, p } => {
-            put(
-                bytes,
-                b"resume",
-                &[Number(n), Small(h), Number(u64::from(m.0)), Word(p)],
-            )
+            begin_on_hart(bytes, b"resume", n, h);
+            put_number(bytes, u64::from(m.0));
+            put_word(bytes, p);
+            end(bytes);
         }
         Line::Evict { n, h, m, k } => {
-            put(
-                bytes,
-                b"evict",
-                &[Number(n), Small(h), Number(u64::from(m.0)), Small(k)],
-            )
+            begin_on_hart(bytes, b"evict", n, h);
+            put_number(bytes, u64::from(m.0));
+            put_small(bytes, k);
+            end(bytes);
         }
         Line::Sset { n, h, m, k } => {
-            put(
-                bytes,
-                b"sset",
-                &[Number(n), Small(h), Number(u64::from(m.0)), Small(k)],
-            )
+            begin_on_hart(bytes, b"sset", n, h);
+            put_number(bytes, u64::from(m.0));
+            put_small(bytes, k);
+            end(bytes);
         }
-        Line::Refuse { n, h, w, r } => put(
-            bytes,
-            b"refuse",
-            &[Number(n), Small(h), Asked(w), Code(r)],
-        ),
-        Line::Start { n, h, t, p } => put(
-            bytes,
-            b"start",
-            &[Number(n), Small(h), Small(t), Word(p)],
-        ),
-        Line::Key { n, b } => put(bytes, b"key", &[Number(n), Byte(b)]),
-        Line::Nokey { n, b } => put(bytes, b"nokey", &[Number(n), Byte(b)]),
-        Line::Poke { n, g, o, b } => put(
-            bytes,
-            b"poke",
-            &[
-                Number(n),
-                Number(u64::from(g.0)),
-                Number(u64::from(o)),
-                Byte(b),
-            ],
-        ),
+        Line::Refuse { n, h, w, r } => {
+            begin_on_hart(bytes, b"refuse", n, h);
+            put_request(bytes, w);
+            put_code(bytes, r);
+            end(bytes);
+        }
+        Line::Start { n, h, t, p } => {
+            begin_on_hart(bytes, b"start", n, h);
+            put_small(bytes, t);
+            put_word(bytes, p);
+            end(bytes);
+        }
+        Line::Key { n, b } => {
+            begin(bytes, b"key", n);
+            put_byte(bytes, b);
+            end(bytes);
+        }
+        Line::Nokey { n, b } => {
+            begin(bytes, b"nokey", n);
+            put_byte(bytes, b);
+            end(bytes);
+        }
+        Line::Poke { n, g, o, b } => {
+            begin(bytes, b"poke", n);
+            put_place(bytes, g, o);
+            put_byte(bytes, b);
+            end(bytes);
+        }
         Line::Nopoke { n, g, o } => {
-            put(
-                bytes,
-                b"nopoke",
-                &[Number(n), Number(u64::from(g.0)), Number(u64::from(o))],
-            )
+            begin(bytes, b"nopoke", n);
+            put_place(bytes, g, o);
+            end(bytes);
         }
-        Line::Peek { n, g, o, b } => put(
-            bytes,
-            b"peek",
-            &[
-                Number(n),
-                Number(u64::from(g.0)),
-                Number(u64::from(o)),
-                Byte(b),
-            ],
-        ),
+        Line::Peek { n, g, o, b } => {
+            begin(bytes, b"peek", n);
+            put_place(bytes, g, o);
+            put_byte(bytes, b);
+            end(bytes);
+        }
         Line::Nopeek { n, g, o } => {
-            put(
-                bytes,
-                b"nopeek",
-                &[Number(n), Number(u64::from(g.0)), Number(u64::from(o))],
-            )
+            begin(bytes, b"nopeek", n);
+            put_place(bytes, g, o);
+            end(bytes);
         }
-        Line::End { n, w, d } => put(bytes, b"end", &[Number(n), Ended(w), Sha(d)]),
+        Line::End { n, w, d } => {
+            begin(bytes, b"end", n);
+            put_finish(bytes, w);
+            put_digest(bytes, d);
+            end(bytes);
+        }
     }
 }

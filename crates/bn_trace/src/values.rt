@@ -7,7 +7,7 @@ ghost use Rattle.bn_model.specs.LineReading as flat;
 ghost use Rattle.bn_model.specs.LineShapes as shape;
 ghost use Rattle.bn_model.specs.Spelling as spelled;
 
-use crate::piece::encode;
+use crate::putting::encode;
 use bn_types::{Digest, Finish, Kind, Request, read_numeral};
 
 /// A number of at most so much.
