@@ -1,3 +1,6 @@
+ghost use Rattle.std.specs.Prelude.{◌≡◌, false, IfOk};
+ghost use Rattle.bn_vault.specs.Openings.{IsCurrent};
+
 use crate::{CommitFault, ReopenFault, Reopened, reopen};
 use bn_edge::{Area, Chip, FileChip, FileVault, MemChip, MemVault, Vault};
 use bn_store::Store;
@@ -35,8 +38,16 @@ fn chip_of(alloc: Global, fails: &[u64]) -> Result<MemChip, Fail> {
     Ok(MemChip::of([0; 32], Vec::from_slice(alloc, fails)?))
 }
 
-fn open<V: Vault, C: Chip>(alloc: Global, vault: &mut V, chip: &mut C) -> Result<Reopened, Fail> {
-    Ok(reopen(alloc, vault, chip).ok().ok_or("not opened")?)
+/// Opens a store that can be committed.
+fn open<V: Vault, C: Chip>(alloc: Global, vault: &mut V, chip: &mut C) -> Result<Reopened, Fail>
+    ensures usable { IfOk result (λ o. o.held.spent ≡ false) }
+    ensures current { IfOk result (λ o.
+        IsCurrent o.held.current (V.account vault.new).areas (C.account chip.new).register) }
+{
+    match reopen(alloc, vault, chip) {
+        Ok(opened) => Ok(opened),
+        Err(_) => Err(Fail::from("not opened")),
+    }
 }
 
 /// Sets word 0 and commits.
