@@ -8,4 +8,5 @@ unfolding zero_page
 returns-in-None-clause-bytes g c =
     rw (← c.self.view_is)
     (c.blank.ensures ∙ ap (λ (count : ℕ). replicate count 0) c.requires.room
-    ∙ sym (page-unplaced c.self.inside.nest.now c.args.page.0 (rw (← c.self.view_is) at c.requires.inside) (sym (sym c.in-None.is ∙ c.look.ensures.placed))))
+    ∙ sym (page-unplaced c.self.inside.nest.now c.args.page.0
+    (rw (← c.self.view_is) at c.requires.inside) (sym (sym c.in-None.is ∙ c.look.ensures.placed))))
