@@ -15,4 +15,5 @@ length_enclaves rows = length-map rows enclave_of
 
 pub vpns_of : (segment : Segment) → IsSegment segment → HaveVpns segment.pages.items
 vpns_of segment h =
-    All-weaker (IsPage (length segment.partners.items)) (λ page. page.vpn.0 < 2 ^ 52) (λ page known. known.vpn) segment.pages.items h.pages
+    All-weaker (IsPage (length segment.partners.items)) (λ page. page.vpn.0 < 2 ^ 52)
+    (λ page known. known.vpn) segment.pages.items h.pages

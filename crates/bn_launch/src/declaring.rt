@@ -1,9 +1,11 @@
-ghost use Rattle.std.specs.Prelude.{◌≡◌, ◌≢◌, ◌+◌, ◌*◌, ◌<◌, ◌≤◌, ◌^◌, ◌||◌, false, is_some, map, IfSome, length};
+ghost use Rattle.std.specs.Prelude.{◌≡◌, ◌≢◌, ◌+◌, ◌*◌, ◌<◌, ◌≤◌, ◌^◌, ◌||◌, false, is_some, map};
+ghost use Rattle.std.specs.Prelude.{IfSome, length};
 ghost use Rattle.std.specs.List.{list_all, list_any};
 ghost use Rattle.bn_types.specs.Visible.{state_at};
 ghost use Rattle.bn_types.specs.declared.page_state.PageState.TheVariants as page_state;
 ghost use Rattle.bn_model.specs.CsrFile.{HasMode};
-ghost use Rattle.bn_model.specs.Launching.{decl_of, have_alias, is_owned_state, is_reached, is_same_page, takes_owned};
+ghost use Rattle.bn_model.specs.Launching.{decl_of, have_alias, is_owned_state, is_reached};
+ghost use Rattle.bn_model.specs.Launching.{is_same_page, takes_owned};
 ghost use Rattle.bn_model.specs.Owners.{is_own};
 ghost use Rattle.bn_launch.specs.Readable.{AreTheirs, HaveVpns, LieInRam};
 

@@ -2,7 +2,9 @@ ghost use Rattle.std.specs.Prelude.{◌≡◌, ◌+◌, ◌*◌, ◌%◌, ◌≤
 ghost use Rattle.bn_types.specs.Visible.{state_at};
 ghost use Rattle.bn_types.specs.declared.page_state.PageState.TheVariants as page_state;
 ghost use Rattle.bn_model.specs.CsrFile.{HasMode};
-ghost use Rattle.bn_model.specs.Launching.{decls_of, decls_unless_refused, is_text_address, judged_of, judgement, judgement_by_decls, judgement_by_identity, judgement_by_segment, text_bytes};
+ghost use Rattle.bn_model.specs.Launching.{decls_of, decls_unless_refused, is_text_address};
+ghost use Rattle.bn_model.specs.Launching.{judged_of, judgement, judgement_by_decls};
+ghost use Rattle.bn_model.specs.Launching.{judgement_by_identity, judgement_by_segment, text_bytes};
 ghost use Rattle.bn_model.specs.Rows.{enclaves};
 ghost use Rattle.bn_model.specs.Segments.{segment_of};
 ghost use Rattle.bn_launch.specs.Readable.{AreWhole, HaveVpns, LieInRam};

@@ -1,9 +1,11 @@
-ghost use Rattle.std.specs.Prelude.{◌≡◌, ◌≢◌, ◌++◌, ◌+◌, ◌*◌, ◌%◌, ◌<◌, ◌≤◌, ◌^◌, List, Some, IfSome, drop, length, take};
+ghost use Rattle.std.specs.Prelude.{◌≡◌, ◌≢◌, ◌++◌, ◌+◌, ◌*◌, ◌%◌, ◌<◌, ◌≤◌, ◌^◌, List, Some};
+ghost use Rattle.std.specs.Prelude.{IfSome, drop, length, take};
 ghost use Rattle.std.specs.Int.{to_le_bytes, w64};
 ghost use Rattle.bn_types.specs.Visible.{state_at};
 ghost use Rattle.bn_types.specs.declared.page_state.PageState.TheVariants as page_state;
 ghost use Rattle.bn_model.specs.CsrFile.{HasMode};
-ghost use Rattle.bn_model.specs.Launching.{bytes_on, free_page, page_if_free, page_if_in_ram, page_in_ram, page_of_address, page_of_leaf, text_bytes};
+ghost use Rattle.bn_model.specs.Launching.{bytes_on, free_page, page_if_free, page_if_in_ram};
+ghost use Rattle.bn_model.specs.Launching.{page_in_ram, page_of_address, page_of_leaf, text_bytes};
 ghost use Rattle.bn_model.specs.Walking.{guest_page};
 ghost use Rattle.bn_launch.specs.Readable.{AreWhole, page_number};
 
@@ -139,7 +141,8 @@ fn word_on<P: Pages, L: Ledger>(pages: &P, page: Gpn, offset: u16, steps: &mut S
     requires whole { AreWhole (P.visible pages.now) }
     requires aligned { offset % 8 ≡ 0 }
     requires inside { offset < 4096 }
-    ensures { to_le_bytes w64 result ≡ take 8 (drop offset (bytes_on (P.visible pages.now) page.0)) }
+    ensures { to_le_bytes w64 result
+        ≡ take 8 (drop offset (bytes_on (P.visible pages.now) page.0)) }
 {
     match pages.word(page, offset, steps) {
         Some(word) => word,

@@ -1,5 +1,10 @@
 ghost use Rattle.std.specs.Prelude.{◌≡◌, ◌+◌, ◌<◌, ◌≤◌, ◌^◌, true, None, length};
-ghost use Rattle.bn_model.specs.Segments.{are_pages_padded, are_placed, are_zero, ascends, entry_count, first_fault, has_entries, has_magic, has_mask, has_mode, has_pages, has_partners, has_rights, has_sort, has_version, have_masks, have_rights, have_sorts, holds_code, in_order, is_executed, is_padded, is_page_padded, is_placed, page_count, partner_count};
+ghost use Rattle.bn_model.specs.Segments.{are_pages_padded, are_placed, are_zero, ascends};
+ghost use Rattle.bn_model.specs.Segments.{entry_count, first_fault, has_entries, has_magic};
+ghost use Rattle.bn_model.specs.Segments.{has_mask, has_mode, has_pages, has_partners, has_rights};
+ghost use Rattle.bn_model.specs.Segments.{has_sort, has_version, have_masks, have_rights};
+ghost use Rattle.bn_model.specs.Segments.{have_sorts, holds_code, in_order, is_executed, is_padded};
+ghost use Rattle.bn_model.specs.Segments.{is_page_padded, is_placed, page_count, partner_count};
 
 use crate::fields::{
     ENTRIES, PAGES, PARTNERS, TEXT_BYTES, entry_at, entry_count_in, mask_at, page_count_in,

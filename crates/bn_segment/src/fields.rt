@@ -1,7 +1,8 @@
 ghost use Rattle.std.specs.Prelude.{◌≡◌, ◌+◌, ◌<◌, ◌≤◌, ◌^◌, length};
 ghost use Rattle.bn_types.specs.Numbers.{number_at};
 ghost use Rattle.bn_types.specs.declared.width.Width.TheVariants.{B8};
-ghost use Rattle.bn_model.specs.Segments.{entry_count, entry_in, mask_in, page_count, partner_count, rights_in, sort_in, sort_of, vpn_in};
+ghost use Rattle.bn_model.specs.Segments.{entry_count, entry_in, mask_in, page_count};
+ghost use Rattle.bn_model.specs.Segments.{partner_count, rights_in, sort_in, sort_of, vpn_in};
 
 use bn_types::Sort;
 

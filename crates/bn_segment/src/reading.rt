@@ -1,6 +1,8 @@
 ghost use Rattle.std.specs.Prelude.{◌≡◌, ◌<◌, ◌≤◌, ◌+◌, length, map, IfOk};
 ghost use Rattle.std.specs.List.{range_with_len};
-ghost use Rattle.bn_model.specs.Segments.{entry_count, entry_in, mode_if, page_count, page_in, partner_count, partner_in, segment_in, segment_of, spelling_of_segment};
+ghost use Rattle.bn_model.specs.Segments.{entry_count, entry_in, mode_if, page_count, page_in};
+ghost use Rattle.bn_model.specs.Segments.{partner_count, partner_in, segment_in, segment_of};
+ghost use Rattle.bn_model.specs.Segments.{spelling_of_segment};
 ghost use Rattle.bn_model.specs.SegmentLaws.{IsSegment};
 
 use crate::faults::fault_in;

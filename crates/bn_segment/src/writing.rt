@@ -1,5 +1,8 @@
-ghost use Rattle.std.specs.Prelude.{◌≡◌, ◌<◌, ◌≤◌, ◌+◌, ◌-◌, ◌*◌, ◌++◌, length, take, flat_map, replicate};
-ghost use Rattle.bn_model.specs.Segments.{entry_bytes, header_bytes, mode_number, page_bytes, partner_bytes, segment_of, sort_number, spelling_of_segment};
+ghost use Rattle.std.specs.Prelude.{◌≡◌, ◌<◌, ◌≤◌, ◌+◌, ◌-◌, ◌*◌, ◌++◌, length, take, flat_map};
+ghost use Rattle.std.specs.Prelude.{replicate};
+ghost use Rattle.bn_model.specs.Segments.{entry_bytes, header_bytes, mode_number, page_bytes};
+ghost use Rattle.bn_model.specs.Segments.{partner_bytes, segment_of, sort_number};
+ghost use Rattle.bn_model.specs.Segments.{spelling_of_segment};
 ghost use Rattle.bn_model.specs.SegmentLaws.{IsSegment};
 ghost use Rattle.bn_types.specs.declared.digest.Digest.{Digest};
 ghost use Rattle.bn_types.specs.declared.seg_page.SegPage.{SegPage};

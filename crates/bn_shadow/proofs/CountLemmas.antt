@@ -1,10 +1,13 @@
 -- What the counts of declarations say, and how they grow.
-use Rattle.std.proofs.Common.{◌≡◌, cond, ℕ, ◌+◌, ◌*◌, ◌≤◌, ◌<◌, Bool, true, false, ◌||◌, List, [], ◌∷◌, ◌++◌, length, map, get_or, replicate, ◌⊎◌, inl, inr, refl, sym, ap, ◌∙◌, arith}
+use Rattle.std.proofs.Common.{◌≡◌, cond, ℕ, ◌+◌, ◌*◌, ◌≤◌, ◌<◌, Bool, true, false, ◌||◌, List, []}
+use Rattle.std.proofs.Common.{◌∷◌, ◌++◌, length, map, get_or, replicate, ◌⊎◌, inl, inr, refl, sym}
+use Rattle.std.proofs.Common.{ap, ◌∙◌, arith}
 use Rattle.std.specs.Prelude.{◌==◌, not, count_by, flat_map, slice_index}
 use Rattle.std.specs.List.{list_any}
 use Rattle.std.proofs.lemmas.Bool.{cases_lt}
 use Rattle.std.proofs.lemmas.Bool.Decides.{nat_tests}
-use Rattle.std.proofs.lemmas.List.{append-nil, get_or-replicate, get_or_past, length-append, length-map, length-replicate}
+use Rattle.std.proofs.lemmas.List.{append-nil, get_or-replicate, get_or_past, length-append}
+use Rattle.std.proofs.lemmas.List.{length-map, length-replicate}
 use Rattle.std.proofs.lemmas.List.Concat.{flat_map-append}
 use Rattle.std.proofs.lemmas.List.Recursion.{is_count_by}
 use Rattle.bn_types.specs.declared.decl.Decl.{Decl}
@@ -32,9 +35,11 @@ counts-none n page = go (cases_lt page n) where
       let size : length (replicate {A = ℕ} n 0) ≡ n = length-replicate n 0 in
       get_or_past (replicate {A = ℕ} n 0) page 0 (omega arith)
 
-pub counted-empty : (live : List Owner) (counts : List ℕ) (n : ℕ) → live ≡ [] → counts ≡ replicate n 0 → IsCounted live counts
+pub counted-empty : (live : List Owner) (counts : List ℕ) (n : ℕ) → live ≡ []
+    → counts ≡ replicate n 0 → IsCounted live counts
 unfolding claims
-counted-empty live counts n none zeros = rw (none, zeros) (record { counts = counts-none n; few = omega arith })
+counted-empty live counts n none zeros =
+    rw (none, zeros) (record { counts = counts-none n; few = omega arith })
 
 -- ---- a page is owned where it is counted
 
@@ -44,36 +49,45 @@ any-tally p (x ∷ xs) = go (p x) (any-tally p xs) where
   some : (n : ℕ) → true ≡ not ((1 + n) == 0)
   some n = grind (arith, nat_tests)
 
-  go : (b : Bool) → list_any p xs ≡ not (tally p xs == 0) → (b || list_any p xs) ≡ not (cond b (1 + tally p xs) (tally p xs) == 0)
+  go : (b : Bool) → list_any p xs ≡ not (tally p xs == 0)
+      → (b || list_any p xs) ≡ not (cond b (1 + tally p xs) (tally p xs) == 0)
   go true rest = some (tally p xs)
   go false rest = rest
 
-pub owned-counted : (live : List Owner) (counts : List ℕ) (page : ℕ) → IsCounted live counts → not (slice_index counts page == 0) ≡ is_owned live page
+pub owned-counted : (live : List Owner) (counts : List ℕ) (page : ℕ) → IsCounted live counts
+    → not (slice_index counts page == 0) ≡ is_owned live page
 owned-counted live counts page h =
-    ap (λ (k : ℕ). not (k == 0)) (h.counts page ∙ sym (tally-count (is_on page) (claims live))) ∙ sym (any-tally (is_on page) (claims live))
+    ap (λ (k : ℕ). not (k == 0)) (h.counts page ∙ sym (tally-count (is_on page) (claims live)))
+    ∙ sym (any-tally (is_on page) (claims live))
 
 -- ---- one module more
 
-claims-more : (live : List Owner) (owner : Owner) → claims (live ++ owner ∷ []) ≡ claims live ++ claims_by owner
+claims-more : (live : List Owner) (owner : Owner)
+    → claims (live ++ owner ∷ []) ≡ claims live ++ claims_by owner
 unfolding claims
 claims-more live owner =
-    flat_map-append claims_by live (owner ∷ []) ∙ ap (λ (last : List Claim). flat_map claims_by live ++ last) (append-nil (claims_by owner))
+    flat_map-append claims_by live (owner ∷ [])
+    ∙ ap (λ (last : List Claim). flat_map claims_by live ++ last) (append-nil (claims_by owner))
 
-tally-append : {X : Type 0} (p : X → Bool) (xs ys : List X) → tally p (xs ++ ys) ≡ tally p xs + tally p ys
+tally-append : {X : Type 0} (p : X → Bool) (xs ys : List X)
+    → tally p (xs ++ ys) ≡ tally p xs + tally p ys
 tally-append p [] ys = omega arith
 tally-append p (x ∷ xs) ys = go (p x) (tally-append p xs ys) where
   go : (b : Bool) → tally p (xs ++ ys) ≡ tally p xs + tally p ys
-      → cond b (1 + tally p (xs ++ ys)) (tally p (xs ++ ys)) ≡ cond b (1 + tally p xs) (tally p xs) + tally p ys
+      → cond b (1 + tally p (xs ++ ys)) (tally p (xs ++ ys)) ≡
+      cond b (1 + tally p xs) (tally p xs) + tally p ys
   go true rest = omega (arith, rest)
   go false rest = rest
 
-tally-claims : (id : ModId) (page : ℕ) (decls : List Decl) → tally (is_on page) (map (claim_by id) decls) ≡ tally (is_same_page page) decls
+tally-claims : (id : ModId) (page : ℕ) (decls : List Decl)
+    → tally (is_on page) (map (claim_by id) decls) ≡ tally (is_same_page page) decls
 tally-claims id page [] = refl
 tally-claims id page (decl ∷ decls) =
     ap (λ (n : ℕ). cond (decl.gpn.0 == page) (1 + n) n) (tally-claims id page decls)
 
 count-more : (live : List Owner) (owner : Owner) (page : ℕ)
-    → count_by (is_on page) (claims (live ++ owner ∷ [])) ≡ count_by (is_on page) (claims live) + count_by (is_same_page page) owner.decls.items
+    → count_by (is_on page) (claims (live ++ owner ∷ [])) ≡
+    count_by (is_on page) (claims live) + count_by (is_same_page page) owner.decls.items
 count-more live owner page =
     let all = tally-count (is_on page) (claims live ++ claims_by owner) in
     let both = tally-append (is_on page) (claims live) (claims_by owner) in
@@ -82,12 +96,22 @@ count-more live owner page =
     let new = tally-count (is_same_page page) owner.decls.items in
     ap (count_by (is_on page)) (claims-more live owner) ∙ omega (arith, all, both, old, own, new)
 
-pub counted-more : (live now : List Owner) (owner : Owner) (old new : List ℕ) → IsCounted live old → now ≡ live ++ owner ∷ [] → length owner.decls.items ≤ 64
-    → ((page : ℕ) → slice_index new page ≡ slice_index old page + count_by (is_same_page page) owner.decls.items)
+pub counted-more : (live now : List Owner) (owner : Owner) (old new : List ℕ) → IsCounted live old
+    → now ≡ live ++ owner ∷ [] → length owner.decls.items ≤ 64
+    → ((page : ℕ) → slice_index new page ≡
+    slice_index old page + count_by (is_same_page page) owner.decls.items)
     → IsCounted now new
 counted-more live now owner old new h e few each = rw e (record {
-  counts = λ page. each page ∙ (ap (λ (n : ℕ). n + count_by (is_same_page page) owner.decls.items) (h.counts page) ∙ sym (count-more live owner page));
+  counts = λ page. each page
+      ∙ (ap (λ (n : ℕ). n + count_by (is_same_page page) owner.decls.items) (h.counts page)
+      ∙ sym (count-more live owner page));
   few =
       rw (claims-more live owner)
-      (omega (arith, h.few, length-append (claims live) (claims_by owner), length-map owner.decls.items (claim_by owner.id), length-append live (owner ∷ [])));
+      (omega (
+        arith,
+        h.few,
+        length-append (claims live) (claims_by owner),
+        length-map owner.decls.items (claim_by owner.id),
+        length-append live (owner ∷ []),
+      ));
 })

@@ -1,4 +1,5 @@
-ghost use Rattle.std.specs.Prelude.{◌≡◌, ◌==◌, ℕ, ◌+◌, ◌<◌, ◌≤◌, IfOk, count_by, length, not, replicate, slice_index};
+ghost use Rattle.std.specs.Prelude.{◌≡◌, ◌==◌, ℕ, ◌+◌, ◌<◌, ◌≤◌, IfOk, count_by, length, not};
+ghost use Rattle.std.specs.Prelude.{replicate, slice_index};
 ghost use Rattle.bn_model.specs.Launching.{is_same_page};
 ghost use Rattle.bn_shadow.specs.Counting.{LieInRam};
 

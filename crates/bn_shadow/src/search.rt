@@ -1,6 +1,7 @@
 ghost use Rattle.std.specs.Prelude.{◌≡◌, ◌<◌, find};
 ghost use Rattle.std.specs.Option.{option_copied};
-ghost use Rattle.bn_model.specs.Admission.{declaration, declared_by, has_right, is_at, is_backed, may_leave};
+ghost use Rattle.bn_model.specs.Admission.{declaration, declared_by, has_right, is_at, is_backed};
+ghost use Rattle.bn_model.specs.Admission.{may_leave};
 ghost use Rattle.bn_model.specs.Bits.{is_set};
 ghost use Rattle.bn_model.specs.Owners.{is_live, is_module};
 

@@ -74,8 +74,10 @@ impl Shadow {
     /// The kinds of access that are admitted there.
     pub fn rights(&self, module: ModId, vpn: Vpn, page: Gpn) -> Rights
         ensures load { has_right Load result ≡ admits self.now.live «module».0 vpn.0 page.0 Load }
-        ensures store { has_right Store result ≡ admits self.now.live «module».0 vpn.0 page.0 Store }
-        ensures fetch { has_right Fetch result ≡ admits self.now.live «module».0 vpn.0 page.0 Fetch }
+        ensures store { has_right Store result
+            ≡ admits self.now.live «module».0 vpn.0 page.0 Store }
+        ensures fetch { has_right Fetch result
+            ≡ admits self.now.live «module».0 vpn.0 page.0 Fetch }
         ensures few { result.0 < 8 }
     {
         let load = bit_if(self.admits(module, vpn, page, Kind::Load), 1);

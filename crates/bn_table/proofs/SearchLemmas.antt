@@ -1,5 +1,6 @@
 -- Searches of rows, where the definitions search what never changes of them.
-use Rattle.std.proofs.Common.{◌≡◌, ℕ, Bool, List, map, find, Option, Some, None, option_map, refl, ap, ◌∙◌}
+use Rattle.std.proofs.Common.{◌≡◌, ℕ, Bool, List, map, find, Option, Some, None, option_map, refl}
+use Rattle.std.proofs.Common.{ap, ◌∙◌}
 use Rattle.std.specs.List.{list_any}
 use Rattle.bn_types.specs.declared.digest.Digest.{Digest}
 use Rattle.bn_types.specs.declared.mod_id.ModId.{ModId}
@@ -19,9 +20,12 @@ pub offerer_rows : (rows : List Row) (who : Digest) (page : ℕ) (rights : Right
     → offerer (enclaves rows) who page rights ≡ id_of_row (find (row_offers who page rights) rows)
 unfolding offerer enclaves
 offerer_rows rows who page rights =
-    ap id_if_some (find-map (offers who page rights) (row_offers who page rights) enclave_of (λ row. refl) rows)
+    ap id_if_some (find-map (offers who page rights) (row_offers who page rights) enclave_of
+    (λ row. refl) rows)
     ∙ same_id (find (row_offers who page rights) rows)
 
-pub known_rows : (rows : List Row) (who : Digest) → list_any (has_identity who) (enclaves rows) ≡ list_any (row_has_identity who) rows
+pub known_rows : (rows : List Row) (who : Digest)
+    → list_any (has_identity who) (enclaves rows) ≡ list_any (row_has_identity who) rows
 unfolding enclaves
-known_rows rows who = any-map (has_identity who) (row_has_identity who) enclave_of (λ row. refl) rows
+known_rows rows who = any-map (has_identity who) (row_has_identity who) enclave_of (λ row. refl)
+    rows

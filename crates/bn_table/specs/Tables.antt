@@ -9,7 +9,8 @@ use Rattle.bn_model.specs.Blanking.{blank_row}
 use Rattle.bn_model.specs.Launching.{has_identity, offers}
 use Rattle.bn_model.specs.Rows.{enclave_of, enclaves, with_row}
 use Rattle.bn_model.specs.Soundness.{Ascend, caller_at, state_at}
-use Rattle.bn_model.specs.Switching.{row_after_answer, row_after_call, row_after_return, row_after_stop, row_after_wait}
+use Rattle.bn_model.specs.Switching.{row_after_answer, row_after_call, row_after_return}
+use Rattle.bn_model.specs.Switching.{row_after_stop, row_after_wait}
 use Rattle.bn_table.specs.declared.change.Change.{Change}
 use Rattle.bn_table.specs.declared.change.Change.TheVariants as act
 

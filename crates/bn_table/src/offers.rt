@@ -2,7 +2,8 @@ ghost use Rattle.std.specs.Prelude.{◌≡◌, ◌≤◌, ◌<◌, find, length}
 ghost use Rattle.std.specs.List.{list_any};
 ghost use Rattle.std.specs.Option.{option_copied};
 ghost use Rattle.bn_model.specs.Bits.{is_set};
-ghost use Rattle.bn_model.specs.Launching.{includes, is_named_partner, is_offer, is_offered, names_partner, offers};
+ghost use Rattle.bn_model.specs.Launching.{includes, is_named_partner, is_offer, is_offered};
+ghost use Rattle.bn_model.specs.Launching.{names_partner, offers};
 ghost use Rattle.bn_model.specs.Rows.{enclave_of};
 ghost use Rattle.bn_table.specs.Tables.{row_offers};
 

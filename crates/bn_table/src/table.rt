@@ -6,7 +6,9 @@ ghost use Rattle.bn_model.specs.Blanking.{blank_row};
 ghost use Rattle.bn_model.specs.Launching.{has_identity, offerer};
 ghost use Rattle.bn_model.specs.Rows.{back_of, enclaves, new_row, row_of, saved_of, with_row};
 ghost use Rattle.bn_model.specs.Soundness.{caller_at, caller_if_some, state_at};
-ghost use Rattle.bn_model.specs.Switching.{id_of_row, row_after_answer, row_after_call, row_after_resume, row_after_return, row_after_stop, row_after_wait, stopped_at};
+ghost use Rattle.bn_model.specs.Switching.{id_of_row, row_after_answer, row_after_call};
+ghost use Rattle.bn_model.specs.Switching.{row_after_resume, row_after_return, row_after_stop};
+ghost use Rattle.bn_model.specs.Switching.{row_after_wait, stopped_at};
 ghost use Rattle.bn_table.specs.Tables.{IsAnswered, IsRunning, IsTable, MayCall, with_change};
 
 use crate::change::{Change, change_row};

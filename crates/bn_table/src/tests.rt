@@ -67,6 +67,89 @@ fn a_called_module_runs_until_it_returns(rt: HostRuntime) -> Result<(), Fail> {
     Ok(())
 }
 
+/// A module of the other identity, whose code is page 30 at the virtual page 9.
+fn running() -> Judged {
+    let mut decls = ArrayVec::new();
+    decls.push(Decl {
+        vpn: Vpn(9),
+        gpn: Gpn(30),
+        sort: Sort::Private,
+        rights: Rights(5),
+        mask: 0,
+        source: ModId(0),
+    });
+    Judged {
+        digest: Digest([2; 32]),
+        mode: Mode::S,
+        entries: ArrayVec::new(),
+        decls,
+        partners: ArrayVec::new(),
+    }
+}
+
+/// A frame in mode S whose x5 is 55.
+fn frame_at(pc: u64) -> SavedFrame {
+    let mut frame = SavedFrame::zero();
+    frame.pc = pc;
+    frame.mode = Mode::S;
+    frame.regs.x[5] = 55;
+    frame
+}
+
+#[test]
+#[tactic(auto, unfolding(bn_model::specs::Rows::with_row))]
+fn a_stopped_module_is_found_at_its_pc_and_goes_on(rt: HostRuntime) -> Result<(), Fail> {
+    let mut table = Table::empty();
+    let id = table.add(running());
+    let seat = table.enter(id, 0, ModId(0), SavedFrame::zero());
+    table.stop(seat, frame_at(0x9010));
+    assert!(rt; state_of(&table, id) == Some(RowState::Stopped));
+    assert!(rt; table.stopped_at(Gpn(30), Vpn(9), 0x9010, Mode::S) == Some(id));
+    assert!(rt; table.stopped_at(Gpn(30), Vpn(9), 0x9014, Mode::S) == None);
+    assert!(rt; table.stopped_at(Gpn(30), Vpn(9), 0x9010, Mode::U) == None);
+    assert!(rt; table.stopped_at(Gpn(31), Vpn(9), 0x9010, Mode::S) == None);
+    let (seat, frame) = table.resume(id, 3);
+    assert!(rt; state_of(&table, id) == Some(RowState::Running { hart: 3 }));
+    assert_eq!(rt; (frame.pc, frame.regs.x[5]), (0x9010, 55));
+    seat.end();
+    assert!(rt; state_of(&table, id) == Some(RowState::Running { hart: 3 }));
+    Ok(())
+}
+
+#[test]
+#[tactic(auto, unfolding(bn_model::specs::Rows::with_row))]
+fn a_module_that_called_another_waits_for_it(rt: HostRuntime) -> Result<(), Fail> {
+    let mut table = Table::empty();
+    let first = table.add(offering());
+    let second = table.add(running());
+    let seat = table.enter(first, 0, ModId(0), SavedFrame::zero());
+    table.wait(seat, frame_at(0x7008), second);
+    assert!(rt; state_of(&table, first) == Some(RowState::Waiting { callee: second }));
+    let seat = table.enter(second, 0, first, SavedFrame::zero());
+    let left = table.leave(seat);
+    assert!(rt; left.caller == first);
+    let (seat, frame) = table.come_back(first, 0);
+    assert!(rt; seat.id() == first);
+    assert_eq!(rt; frame.pc, 0x7008);
+    seat.end();
+    Ok(())
+}
+
+#[test]
+#[tactic(auto, unfolding(bn_model::specs::Rows::with_row))]
+fn a_blanked_row_keeps_pc_and_mode_alone(rt: HostRuntime) -> Result<(), Fail> {
+    let mut table = Table::empty();
+    let id = table.add(running());
+    let seat = table.enter(id, 0, ModId(0), SavedFrame::zero());
+    table.stop(seat, frame_at(0x9010));
+    table.blank(id);
+    let (seat, frame) = table.resume(id, 0);
+    assert!(rt; frame.mode == Mode::S);
+    assert_eq!(rt; (frame.pc, frame.regs.x[5]), (0x9010, 0));
+    seat.end();
+    Ok(())
+}
+
 fn state_of(table: &Table, id: ModId) -> Option<RowState> {
     match table.row(id) {
         Some(row) => Some(row.state),

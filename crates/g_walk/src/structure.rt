@@ -1,6 +1,8 @@
-ghost use Rattle.std.specs.Prelude.{◌≡◌, ℕ, ◌+◌, ◌*◌, ◌<◌, ◌≤◌, ◌^◌, ◌%◌, ◌++◌, Ok, Some, [], false, length, IfOk, IfSome, IfNone};
+ghost use Rattle.std.specs.Prelude.{◌≡◌, ℕ, ◌+◌, ◌*◌, ◌<◌, ◌≤◌, ◌^◌, ◌%◌, ◌++◌, Ok, Some, []};
+ghost use Rattle.std.specs.Prelude.{false, length, IfOk, IfSome, IfNone};
 ghost use Rattle.bn_model.specs.CsrFile.{HasMode};
-ghost use Rattle.bn_model.specs.Walking.{entry_at, guest_page, index_of, is_canonical, landing_of, leaf_end, leaf_of, tables_read, walk_bare, walk_from};
+ghost use Rattle.bn_model.specs.Walking.{entry_at, guest_page, index_of, is_canonical, landing_of};
+ghost use Rattle.bn_model.specs.Walking.{leaf_end, leaf_of, tables_read, walk_bare, walk_from};
 ghost use Rattle.bn_model.specs.WalkLaws.{AllFree};
 ghost use Rattle.g_walk.specs.Answers.{end_result, landing, leaf_result, table_entry};
 

@@ -1,7 +1,12 @@
-ghost use Rattle.std.specs.Prelude.{◌≡◌, ℕ, ◌+◌, ◌-◌, ◌*◌, ◌/◌, ◌%◌, ◌^◌, ◌<◌, ◌≤◌, ◌↔◌, ◌≢◌, List, None, Some, length, replicate, slice_set, IfOk, OnOk, OnErr, IsOk, IsErr};
-ghost use Rattle.bn_types.specs.Numbers.{AreWhole, bytes_of, number_at, page_at, with_number, zero_page};
+ghost use Rattle.std.specs.Prelude.{◌≡◌, ℕ, ◌+◌, ◌-◌, ◌*◌, ◌/◌, ◌%◌, ◌^◌, ◌<◌, ◌≤◌, ◌↔◌, ◌≢◌, List};
+ghost use Rattle.std.specs.Prelude.{None, Some, length, replicate, slice_set, IfOk, OnOk, OnErr};
+ghost use Rattle.std.specs.Prelude.{IsOk, IsErr};
+ghost use Rattle.bn_types.specs.Numbers.{AreWhole, bytes_of, number_at, page_at, with_number};
+ghost use Rattle.bn_types.specs.Numbers.{zero_page};
 ghost use Rattle.bn_types.specs.declared.frame.Frame.{Frame};
-ghost use Rattle.bn_model.specs.Nesting.{entry_at, leaf_to, low_entry, pointer_to, low_tables, contents, place, table_frames, words_walked, IsNested, IsFree, NoneFree};
+ghost use Rattle.bn_model.specs.Nesting.{entry_at, leaf_to, low_entry, pointer_to, low_tables};
+ghost use Rattle.bn_model.specs.Nesting.{contents, place, table_frames, words_walked, IsNested};
+ghost use Rattle.bn_model.specs.Nesting.{IsFree, NoneFree};
 ghost use Rattle.n_walk.specs.Building.{HasMiddle, IsWritten, numbered};
 
 use crate::PoolEmpty;
@@ -112,7 +117,8 @@ impl Nest {
         ensures refused { OnErr result (self.new ≡ self.old) }
         ensures free { IfOk result (λ frame. IsFree self.old frame) }
         ensures placed { IfOk result (λ frame. place self.new page.0 ≡ Some frame) }
-        ensures others { (other : ℕ) → other ≢ page.0 → place self.new other ≡ place self.old other }
+        ensures others { (other : ℕ) → other ≢ page.0
+            → place self.new other ≡ place self.old other }
         ensures contents { contents self.new ≡ contents self.old }
         ensures nested { IsNested self.new }
         ensures ram { self.new.ram ≡ self.old.ram }
@@ -138,7 +144,8 @@ impl Nest {
         ensures refused { OnErr result (self.new ≡ self.old) }
         ensures free { IfOk result (λ frame. IsFree self.old frame) }
         ensures placed { IfOk result (λ frame. place self.new page.0 ≡ Some frame) }
-        ensures others { (other : ℕ) → other ≢ page.0 → place self.new other ≡ place self.old other }
+        ensures others { (other : ℕ) → other ≢ page.0
+            → place self.new other ≡ place self.old other }
         ensures contents { contents self.new ≡ contents self.old }
         ensures left { (frame : Frame) → place self.old page.0 ≡ Some frame → OnOk result
             (IsFree self.new frame) }

@@ -1,6 +1,9 @@
 ghost use Rattle.std.specs.Prelude.{◌≡◌, ◌%◌, Some, true};
-ghost use Rattle.bn_model.specs.CsrFile.{HasMode, Sstatus, Sie, Stvec, Satp, csr_of, csr_read, csr_write, reset_csrs, sstatus_value, value_if_known, with_csr, with_csr_if_known};
-ghost use Rattle.bn_model.specs.Trapping.{after_software, after_sret, after_trap, interrupt_if, interrupt_taken, trap_target};
+ghost use Rattle.bn_model.specs.CsrFile.{HasMode, Sstatus, Sie, Stvec, Satp, csr_of, csr_read};
+ghost use Rattle.bn_model.specs.CsrFile.{csr_write, reset_csrs, sstatus_value, value_if_known};
+ghost use Rattle.bn_model.specs.CsrFile.{with_csr, with_csr_if_known};
+ghost use Rattle.bn_model.specs.Trapping.{after_software, after_sret, after_trap, interrupt_if};
+ghost use Rattle.bn_model.specs.Trapping.{interrupt_taken, trap_target};
 ghost use Rattle.rv_csr.specs.Outcomes.{ReadsCsr, WritesCsr};
 
 use crate::bits::{flag, interrupt_bits, is_set, without_low_bits};

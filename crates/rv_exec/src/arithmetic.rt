@@ -1,5 +1,7 @@
 ghost use Rattle.std.specs.Prelude.{◌≡◌, ◌<◌};
-ghost use Rattle.bn_model.specs.Acting.{immediate_value, one_if_less, one_if_less_unsigned, plus_immediate, register_value, shift_value, word_shift_value, word_value};
+ghost use Rattle.bn_model.specs.Acting.{immediate_value, one_if_less, one_if_less_unsigned};
+ghost use Rattle.bn_model.specs.Acting.{plus_immediate, register_value, shift_value};
+ghost use Rattle.bn_model.specs.Acting.{word_shift_value, word_value};
 
 use crate::extending::{extend_word, in_64_bits};
 use bn_types::{ImmOp, Op, ShiftOp, WordOp};

@@ -1,6 +1,7 @@
 //! The words of each format (Unprivileged ISA, "Base Instruction Formats").
 ghost use Rattle.std.specs.Prelude.{◌≡◌, ◌^◌, ◌<◌};
-ghost use Rattle.bn_model.specs.Encoding.{FormatR, FormatI, FormatS, FormatB, FormatU, FormatJ, FormatShift, FormatShiftW, FormatNumber};
+ghost use Rattle.bn_model.specs.Encoding.{FormatR, FormatI, FormatS, FormatB, FormatU, FormatJ};
+ghost use Rattle.bn_model.specs.Encoding.{FormatShift, FormatShiftW, FormatNumber};
 ghost use Rattle.bn_model.specs.InsnRanges.{FitsBits, IsMultipleOf, IsRegister};
 
 use crate::encoding::immediates::{bits12, bits13, bits21, bits32};

@@ -5,4 +5,5 @@ use Rattle.bn_shadow.proofs.counts.count_up.Given as goal
 
 abbrev pub invariant-loop-decl : goal.invariant-loop-decl
 invariant-loop-decl l =
-    (page : ℕ) → slice_index l.counts page ≡ slice_index l.initial.counts page + count_by (is_same_page page) (take l.decl-index l.decls)
+    (page : ℕ) → slice_index l.counts page ≡
+    slice_index l.initial.counts page + count_by (is_same_page page) (take l.decl-index l.decls)

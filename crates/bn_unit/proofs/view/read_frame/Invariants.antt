@@ -7,4 +7,5 @@ use Rattle.bn_unit.proofs.view.read_frame.Given as goal
 -- the bytes so far are the page's
 abbrev pub invariant-loop-offset : goal.invariant-loop-offset
 invariant-loop-offset l =
-    (page : ℕ) → place l.nest page ≡ Some l.frame → l.bytes ≡ mixed l.offset (page_at (contents l.nest) page) l.initial.bytes
+    (page : ℕ) → place l.nest page ≡ Some l.frame
+    → l.bytes ≡ mixed l.offset (page_at (contents l.nest) page) l.initial.bytes

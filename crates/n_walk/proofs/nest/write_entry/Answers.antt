@@ -5,5 +5,7 @@ use Rattle.n_walk.proofs.nest.write_entry.Goals as goal
 
 pub returns : goal.returns
 returns c =
-    subst (λ (new : List (List ℕ)). IsWritten c.args.frames.now new c.args.table.0 c.args.index c.args.entry) (sym c.put.ensures)
-    (written c.args.frames.now c.args.table.0 c.args.index c.args.entry c.requires.whole c.requires.table c.requires.index (omega arith))
+    subst (λ (new : List (List ℕ)).
+    IsWritten c.args.frames.now new c.args.table.0 c.args.index c.args.entry) (sym c.put.ensures)
+    (written c.args.frames.now c.args.table.0 c.args.index c.args.entry c.requires.whole
+    c.requires.table c.requires.index (omega arith))

@@ -6,4 +6,5 @@ pub loop-index-init : goal.loop-index-init
 loop-index-init c = middle-none c.args.frames.now c.requires.whole
 
 pub loop-index-preserved : goal.loop-index-preserved
-loop-index-preserved c = middle-more _ _ _ c.loop-index.index (omega arith) c.loop-index.invariant (rw c.pointer.ensures at c.write_entry.ensures)
+loop-index-preserved c = middle-more _ _ _ c.loop-index.index (omega arith) c.loop-index.invariant
+    (rw c.pointer.ensures at c.write_entry.ensures)

@@ -13,4 +13,5 @@ returns-clause-only c = λ word p h.
     Encodes-same c.by_insn.result word c.args.insn.now fits p c.by_insn.ensures h
 
 pub returns-clause-back : goal.returns-clause-back
-returns-clause-back c = λ word p e. returns-clause-only c word p (Encodes-found word c.args.insn.now e)
+returns-clause-back c = λ word p e.
+    returns-clause-only c word p (Encodes-found word c.args.insn.now e)

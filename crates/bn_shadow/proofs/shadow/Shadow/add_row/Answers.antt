@@ -4,4 +4,6 @@ use Rattle.bn_shadow.proofs.shadow.Shadow.add_row.Goals as goal
 pub invariant_of-self : goal.invariant_of-self
 invariant_of-self c =
     let counts = rw c.deref-2.ensures.0 at c.count_row.ensures.counts in
-    counted-more c.self.inside.live.items c.push.new.self.items _ c.self.inside.counts.items c.count_row.new.counts.items c.self.invariant c.push.ensures.items c.copy_of-decls.ensures.few counts
+    counted-more c.self.inside.live.items c.push.new.self.items _ c.self.inside.counts.items
+    c.count_row.new.counts.items c.self.invariant c.push.ensures.items c.copy_of-decls.ensures.few
+    counts

@@ -6,4 +6,5 @@ invariant_of-self c =
     let room = rw (← c.self.view_is) at c.requires.room in
     let ids = rw (← c.self.view_is) at c.requires.ids in
     rw (c.push.ensures.items, c.zero.ensures, c.zero-2.ensures)
-    (add-table (record { rows = c.self.inside.rows.items; next = c.self.inside.next }) c.args.judged c.self.invariant room ids)
+    (add-table (record { rows = c.self.inside.rows.items; next = c.self.inside.next }) c.args.judged
+    c.self.invariant room ids)

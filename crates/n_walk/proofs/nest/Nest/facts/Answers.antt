@@ -6,4 +6,5 @@ pub returns-clause-whole : goal.returns-clause-whole
 returns-clause-whole c = rw (← c.self.view_is) (whole-contents _ c.self.invariant)
 
 pub returns-clause-count : goal.returns-clause-count
-returns-clause-count c = rw (← c.self.view_is) (length-contents c.self.inside.ram_pages c.self.inside.frames)
+returns-clause-count c = rw (← c.self.view_is)
+    (length-contents c.self.inside.ram_pages c.self.inside.frames)

@@ -9,12 +9,14 @@ invariant_of-self c =
     let placed = rw (← c.self.view_is) at c.requires.placed.1 in
     rw c.put.ensures
     (holds-changed _ c.requires.placed.0 c.args.frame _ c.self.invariant placed
-    (size-written _ c.requires.placed.0 c.args.frame c.args.width c.args.offset c.args.value c.self.invariant placed c.requires.aligned c.requires.inside))
+    (size-written _ c.requires.placed.0 c.args.frame c.args.width c.args.offset c.args.value
+    c.self.invariant placed c.requires.aligned c.requires.inside))
 
 pub returns-clause-written : goal.returns-clause-written
 returns-clause-written c =
     rw (← c.self.view_is, c.put.ensures)
-    (λ page e. rw (page-contents (the_view c.self.inside) page c.args.frame e) (contents-changed _ page c.args.frame _ c.self.invariant e))
+    (λ page e. rw (page-contents (the_view c.self.inside) page c.args.frame e)
+    (contents-changed _ page c.args.frame _ c.self.invariant e))
 
 pub returns-clause-places : goal.returns-clause-places
 returns-clause-places c =

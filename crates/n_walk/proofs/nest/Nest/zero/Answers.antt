@@ -7,7 +7,8 @@ use Rattle.n_walk.proofs.nest.Nest.zero.Goals as goal
 pub invariant_of-self : goal.invariant_of-self
 invariant_of-self c =
     let placed = rw (← c.self.view_is) at c.requires.1 in
-    rw c.zero.ensures (holds-changed _ c.requires.0 c.args.frame zero_page c.self.invariant placed length-zero_page)
+    rw c.zero.ensures (holds-changed _ c.requires.0 c.args.frame zero_page c.self.invariant placed
+    length-zero_page)
 
 pub returns-clause-written : goal.returns-clause-written
 returns-clause-written c =

@@ -10,6 +10,8 @@ returns c =
     let fits : FitsSigned w32 c.args.immediate = c.ranges.immediate in
     let same = simp to_z-of_z at c.bits13-bits.ensures.same in
     let even = simp to_z-of_z at c.bits13-bits.ensures.even in
-    FormatB-sum _ c.args.opcode c.args.funct3 c.args.rs1 c.args.rs2 c.args.immediate c.bits13-bits.result
-    c.requires.opcode_fits c.requires.funct3_fits c.requires.rs1_fits c.requires.rs2_fits c.bits13-bits.ensures.fits (even c.requires.immediate_even) same
+    FormatB-sum _ c.args.opcode c.args.funct3 c.args.rs1 c.args.rs2 c.args.immediate
+    c.bits13-bits.result
+    c.requires.opcode_fits c.requires.funct3_fits c.requires.rs1_fits c.requires.rs2_fits
+    c.bits13-bits.ensures.fits (even c.requires.immediate_even) same
     (grind (arith, common_steps))

@@ -8,6 +8,8 @@ pub returns : goal.returns
 returns c =
     let fits : FitsSigned w32 c.args.immediate = c.ranges.immediate in
     let same = simp to_z-of_z at c.bits12-bits.ensures.same in
-    FormatI-sum _ c.args.opcode c.args.funct3 c.args.rd c.args.rs1 c.args.immediate c.bits12-bits.result
-    c.requires.opcode_fits c.requires.funct3_fits c.requires.rd_fits c.requires.rs1_fits c.bits12-bits.ensures.fits same
+    FormatI-sum _ c.args.opcode c.args.funct3 c.args.rd c.args.rs1 c.args.immediate
+    c.bits12-bits.result
+    c.requires.opcode_fits c.requires.funct3_fits c.requires.rd_fits c.requires.rs1_fits
+    c.bits12-bits.ensures.fits same
     (omega arith)

@@ -11,5 +11,6 @@ returns c =
     let same = simp to_z-of_z at c.bits21-bits.ensures.same in
     let even = simp to_z-of_z at c.bits21-bits.ensures.even in
     FormatJ-sum _ c.args.opcode c.args.rd c.args.immediate c.bits21-bits.result
-    c.requires.opcode_fits c.requires.rd_fits c.bits21-bits.ensures.fits (even c.requires.immediate_even) same
+    c.requires.opcode_fits c.requires.rd_fits c.bits21-bits.ensures.fits
+    (even c.requires.immediate_even) same
     (grind (arith, common_steps))

@@ -6,5 +6,6 @@ use Rattle.rv_insn.proofs.encoding.formats.word_r.Goals as goal
 pub returns : goal.returns
 returns c =
     FormatR-sum _ c.args.opcode c.args.funct3 c.args.funct7 c.args.rd c.args.rs1 c.args.rs2
-    c.requires.opcode_fits c.requires.funct3_fits c.requires.funct7_fits c.requires.rd_fits c.requires.rs1_fits c.requires.rs2_fits
+    c.requires.opcode_fits c.requires.funct3_fits c.requires.funct7_fits c.requires.rd_fits
+    c.requires.rs1_fits c.requires.rs2_fits
     (omega arith)

@@ -9,6 +9,8 @@ pub returns : goal.returns
 returns c =
     let fits : FitsSigned w32 c.args.immediate = c.ranges.immediate in
     let same = simp to_z-of_z at c.bits12-bits.ensures.same in
-    FormatS-sum _ c.args.opcode c.args.funct3 c.args.rs1 c.args.rs2 c.args.immediate c.bits12-bits.result
-    c.requires.opcode_fits c.requires.funct3_fits c.requires.rs1_fits c.requires.rs2_fits c.bits12-bits.ensures.fits same
+    FormatS-sum _ c.args.opcode c.args.funct3 c.args.rs1 c.args.rs2 c.args.immediate
+    c.bits12-bits.result
+    c.requires.opcode_fits c.requires.funct3_fits c.requires.rs1_fits c.requires.rs2_fits
+    c.bits12-bits.ensures.fits same
     (grind (arith, common_steps))
