@@ -1,12 +1,6 @@
-<<<<<<< HEAD
 ghost use Rattle.std.specs.Prelude.{◌≡◌, ℕ, List, [], ◌∷◌, ◌++◌, ◌+◌, ◌%◌, ◌^◌, ◌*◌, ◌<◌, ◌≤◌, ◌==◌, Some, Err, IfOk, length};
-=======
-ghost use Rattle.std.specs.Prelude.{◌≡◌, ℕ, List, ◌+◌, ◌%◌, ◌^◌, ◌*◌, ◌<◌, ◌≤◌, ◌==◌, Some, Err};
-ghost use Rattle.std.specs.Prelude.{IfOk, length};
->>>>>>> a358300f5f31b6806037c934b6dbb3cf184d50f3
 ghost use Rattle.bn_types.specs.Numbers.{AreWhole, bytes_of};
-ghost use Rattle.bn_model.specs.Accessing.{access, answer_of_load, guest_words, number_on};
-ghost use Rattle.bn_model.specs.Accessing.{pages_after_store, pages_with, words_of_access};
+ghost use Rattle.bn_model.specs.Accessing.{access, answer_of_load, guest_words, number_on, pages_after_store, pages_with, words_of_access};
 ghost use Rattle.bn_model.specs.Accessing as accessing;
 ghost use Rattle.bn_model.specs.Nesting.{IsNested, contents, place, table_frames};
 ghost use Rattle.bn_model.specs.Nesting as nesting;
@@ -167,8 +161,7 @@ impl Unit {
         steps: &mut Steps<L>,
     ) -> Result<(), Fault>
         requires { HasMode who.now.satp }
-        ensures answer { Completes result
-            (access (memory_of self.old) who.now Kind.Store va width) }
+        ensures answer { Completes result (access (memory_of self.old) who.now Kind.Store va width) }
         ensures stored { let m = memory_of self.old in memory_of self.new
             ≡ record m {
               pages = pages_after_store m.pages width value

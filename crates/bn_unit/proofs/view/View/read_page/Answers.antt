@@ -22,9 +22,4 @@ returns-in-None-clause-bytes g c =
     rw (← c.self.view_is)
     (content-free c.self.inside.nest.now c.self.inside.shadow.now.live c.args.page.0 _ (rw (← c.self.view_is) at free)
     (c.blank.ensures ∙ ap (λ (count : ℕ). replicate count 0) c.requires.room
-<<<<<<< HEAD
     ∙ sym (page-unplaced c.self.inside.nest.now c.args.page.0 inside (sym (sym c.in-None.is ∙ c.look.ensures.placed)))))
-=======
-    ∙ sym (page-unplaced c.self.inside.nest.now c.args.page.0
-    (rw (← c.self.view_is) at c.requires.inside) (sym (sym c.in-None.is ∙ c.look.ensures.placed))))
->>>>>>> a358300f5f31b6806037c934b6dbb3cf184d50f3
