@@ -1,11 +1,8 @@
 -- Pages that are filled with bytes, one after another.
 use Rattle.std.proofs.Common.{◌≡◌, ℕ, zero, suc, ◌+◌, ◌-◌, ◌*◌, ◌%◌, ◌^◌, ◌<◌, ◌≤◌, List, [], ◌∷◌, ◌++◌, take, drop, length, get_or, set, replicate, ◌≢◌, ◌⊎◌, inl, inr, Some, None, refl, sym, ap, ◌∙◌, arith, add-one, subst}
-use Rattle.std.specs.List.{concat}
 use Rattle.std.proofs.lemmas.List.{append_assoc, length-append, length-take-le, length-drop, length-replicate, set-set, get_or-set_same, get_or-drop, get_or-replicate, get_or-append_right, replicate-append-replicate, append-nil}
 use Rattle.std.proofs.lemmas.Bool.{cases_eq}
 use Rattle.std.proofs.lemmas.List.FromFn.{length-map-range_with_len, get_or-map-range_with_len}
-use Rattle.std.proofs.lemmas.List.Folds.{concat-append}
-use Rattle.std.proofs.Math.Seq.{take-suc}
 use Rattle.bn_types.specs.Numbers.{AreWhole, with_number, zero_page}
 use Rattle.bn_types.specs.declared.width.Width.TheVariants.{B1}
 use Rattle.bn_model.proofs.MixedLists.{mixed, mixed_all, set-mixed}
@@ -85,13 +82,6 @@ pub opening_harts_more : (count entry : ℕ) → 0 < count → opening_harts cou
 opening_harts_more count entry h =
     let n : count - 1 + 1 ≡ count + 1 - 1 = omega arith in
     ap (λ l. get_or (opening_harts count entry) 0 resting_hart ∷ l) (replicate-append-replicate (count - 1) 1 resting_hart ∙ ap (λ k. replicate k resting_hart) n)
-
--- one more page
-pub concat-take : (pages : List (List ℕ)) (g : ℕ) (page : List ℕ) → g < length pages → page ≡ get_or pages g []
-    → concat (take g pages) ++ page ≡ concat (take (g + 1) pages)
-concat-take pages g page h e =
-    rw add-one (sym (ap concat (take-suc pages g [] h) ∙ concat-append (take g pages) (get_or pages g [] ∷ [])
-    ∙ ap (λ l. concat (take g pages) ++ l) (append-nil (get_or pages g [])) ∙ ap (λ l. concat (take g pages) ++ l) (sym e)))
 
 -- the page at which the filling is
 pub page_inside : (frames : List (List ℕ)) (g : ℕ) (bytes : List ℕ) → g < length frames → g < length (mixed g (pages_of (length frames) bytes) frames)

@@ -1,8 +1,10 @@
 pub mod AlignedJumps
 pub mod Filling
 pub mod Numerals
+pub mod PublicPages
 pub mod Runs
 pub mod Serving
 pub mod Stories
+pub mod Unbuilt
 pub mod Wrote
 mod Turns

@@ -33,22 +33,14 @@ made-fetched result s t new text h word same e made =
     (sym (ap (asked_of_fetch s.rows (hart_outside s h)) e))
     (subst (λ (t : State). MakesAsked result t new text h (asked_of_insn (hart_outside t h) (insn_of word))) same made)
 
--- while no module is live, none goes on
-unfetched : (hart : Hart) (fault : Fault) (denied : Option Gpn) → asked_of_denial [] hart fault denied ≡ Unfetched fault
-unfolding stopped_at
-unfetched hart fault None = refl
-unfetched hart fault (Some page) = refl
-
--- the fetch failed, and its trap was taken
-pub made-unfetched : (s t new : State) (text : List ℕ) (h : ℕ) (fault : Fault) → t ≡ s → s.rows ≡ [] → fetched s h ≡ Err fault
-    → IsMade t new text h (decision_of_fault kind.Fetch fault)
-    → MakesAsked (Ok tt) s new text h (asked_of_interrupt s h (hart_outside s h) None)
-made-unfetched s t new text h fault same empty e made =
-    let hart = hart_outside s h in
-    let asked : asked_of_fetch s.rows hart (fetched s h) ≡ Unfetched fault =
-    ap (asked_of_fetch s.rows hart) e ∙ ap (λ (rows : List Row). asked_of_denial rows hart fault fault.denied) empty ∙ unfetched hart fault fault.denied in
-    subst (λ (asked : Asked). MakesAsked (Ok tt) s new text h asked) (sym asked)
-    (subst (λ (t : State). IsMade t new text h (decision_of_fault kind.Fetch fault)) same made)
+-- the fetch failed
+pub made-unfetched : (result : Result Unit Unbuilt) (s t new : State) (text : List ℕ) (h : ℕ) (fault : Fault) → t ≡ s → fetched s h ≡ Err fault
+    → MakesAsked result t new text h (asked_of_denial t.rows (hart_outside t h) fault fault.denied)
+    → MakesAsked result s new text h (asked_of_interrupt s h (hart_outside s h) None)
+made-unfetched result s t new text h fault same e made =
+    subst (λ (asked : Asked). MakesAsked result s new text h asked)
+    (sym (ap (asked_of_fetch s.rows (hart_outside s h)) e))
+    (subst (λ (t : State). MakesAsked result t new text h (asked_of_denial t.rows (hart_outside t h) fault fault.denied)) same made)
 
 -- a turn of a hart that runs the untrusted world
 pub made-turn : (result : Result Unit Unbuilt) (s new : State) (text : List ℕ) (h : ℕ) → hart_outside s h ≡ hart_at s h

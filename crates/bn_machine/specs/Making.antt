@@ -1,8 +1,9 @@
 -- What a turn's methods come to: the decision is made, or it isn't built and nothing changes.
-use Rattle.std.specs.Prelude.{◌≡◌, ℕ, true, false, List, [], Result, Ok, Err}
+use Rattle.std.specs.Prelude.{◌≡◌, ℕ, Bool, true, false, List, [], Result, Ok, Err}
 use Rattle.bn_types.specs.declared.act.Act.{Act}
 use Rattle.bn_model.specs.Deciding.{decision_of, decision_of_act, decision_of_asked}
-use Rattle.bn_model.specs.Decision.{Asked, Decision}
+use Rattle.bn_types.specs.declared.fault.Fault.{Fault}
+use Rattle.bn_model.specs.Decision.{Asked, Decision, Resuming, Unfetched}
 use Rattle.bn_model.specs.Spelling.{text_of}
 use Rattle.bn_model.specs.State.{State, hart_at}
 use Rattle.bn_model.specs.Stepping.{after_turn, lines_of_turn}
@@ -43,6 +44,15 @@ Makes (Err unbuilt) old new text h d = IsLeft old new text d
 abbrev pub MakesAsked : Result Unit Unbuilt → (old new : State) → List ℕ → ℕ → Asked → Type 0
 MakesAsked result old new text h asked =
     Makes result old new text h (decision_of_asked old h (hart_outside old h) asked)
+
+abbrev pub IsResumption : Asked → Type 0
+IsResumption (Resuming id) = Unit {0}
+IsResumption asked = ⊥
+
+-- a stopped module goes on where a fetch failed, or else its trap is taken
+abbrev pub Resumes : Bool → Fault → Asked → Type 0
+Resumes true fault asked = IsResumption asked
+Resumes false fault asked = asked ≡ Unfetched fault
 
 -- what its instruction asks for is made, or isn't built
 abbrev pub MakesAct : Result Unit Unbuilt → (old new : State) → List ℕ → ℕ → Act → Type 0

@@ -1,8 +1,11 @@
 -- A machine as a value: its parts, and the state of the flat machine for which they stand.
-use Rattle.std.specs.Prelude.{◌<◌, List, length}
-use Rattle.bn_model.specs.Nesting.{IsNested, Nested}
+use Rattle.std.specs.Prelude.{◌≡◌, ◌<◌, List, length}
+use Rattle.bn_types.specs.declared.row.Row.{Row}
+use Rattle.bn_model.specs.Nesting.{IsNested}
+use Rattle.bn_model.specs.Rows.{owners}
 use Rattle.bn_model.specs.Standing.{Parts, state_of}
 use Rattle.bn_model.specs.State.{Hart, State}
+use Rattle.bn_unit.specs.Memory.{Backing}
 
 pub record Standing : Type 0 where
   pub parts : Parts
@@ -11,7 +14,9 @@ pub record Standing : Type 0 where
 abbrev pub standing : Parts → Standing
 standing parts = record { parts = parts; state = state_of parts }
 
--- the nested tables lead as their placement says, and there is a hart
-pub record HasParts (nest : Nested) (harts : List Hart) : Type 0 where
-  pub nested : IsNested nest
+-- the nested tables lead as their placement says, the memory unit knows what the live modules
+-- declare, and there is a hart
+pub record HasParts (unit : Backing) (rows : List Row) (harts : List Hart) : Type 0 where
+  pub nested : IsNested unit.nest
+  pub owned : unit.live ≡ owners rows
   pub some : 0 < length harts

@@ -2,6 +2,7 @@ ghost use Rattle.std.specs.Prelude.{◌≡◌};
 ghost use Rattle.bn_model.specs.Standing.{StandsFor};
 
 use crate::hart::Hart;
+use bn_table::Table;
 use bn_unit::Unit;
 use std::marker::Model;
 
@@ -18,6 +19,7 @@ mod turning;
 #[derive(Drop)]
 pub struct Machine {
     unit: Unit,
+    table: Table,
     harts: Vec<Hart>,
     clock: u64,
     off: bool,
@@ -32,15 +34,15 @@ impl Model for Machine {
     ghost view = { λ m. standing (record {
       nest = m.unit.nest;
       harts = m.harts.items;
-      rows = [];
+      rows = m.table.rows;
       records = [];
       keys = [];
-      next = 1;
+      next = m.table.next;
       clock = m.clock;
       off = m.off;
     }) };
 
-    ghost invariant = { λ m. HasParts m.unit.nest m.harts.items };
+    ghost invariant = { λ m. HasParts m.unit m.table.rows m.harts.items };
 }
 
 impl Machine {

@@ -6,5 +6,7 @@ pub use bn_types::Asker;
 pub use unit::Unit;
 pub use view::View;
 
+#[cfg(test)]
+mod tests;
 mod unit;
 mod view;

@@ -86,9 +86,11 @@ impl Unit {
     /// (Privileged ISA, "Supervisor Cause Register", "Virtual Address Translation Process").
     ///
     /// The fault has the virtual address, and the cause that is met first: 12 where the tables hold
-    /// no leaf for the address or the leaf doesn't permit the fetch, and 1 where a table, or at
-    /// last the page, lies outside RAM. A fetch costs four steps for each of the guest's tables
-    /// that it reads, and three for its page where it reaches one, so at most 15.
+    /// no leaf for the address or the leaf doesn't permit the fetch, and 1 where a table lies
+    /// outside RAM or is a module's, or at last the page lies outside RAM or the declarations of
+    /// live modules don't admit the fetch; then the fault names the page. A fetch costs four steps
+    /// for each of the guest's tables that it reads, and three for its page where it reaches one,
+    /// so at most 15.
     pub fn fetch<L: Ledger>(
         &mut self,
         who: &Asker,
@@ -116,9 +118,11 @@ impl Unit {
     ///
     /// The fault has the virtual address, and cause 4 where that isn't a multiple of the width in
     /// bytes, else the cause that is met first: 13 where the tables hold no leaf for the address or
-    /// the leaf doesn't permit the load, and 5 where a table, or at last the page, lies outside
-    /// RAM. A load costs four steps for each of the guest's tables that it reads, none where it is
-    /// misaligned, and three for its page where it reaches one, so at most 15.
+    /// the leaf doesn't permit the load, and 5 where a table lies outside RAM or is a module's, or
+    /// at last the page lies outside RAM or the declarations of live modules don't admit the load;
+    /// then the fault names the page. A load costs four steps for each of the guest's tables that
+    /// it reads, none where it is misaligned, and three for its page where it reaches one, so at
+    /// most 15.
     pub fn load<L: Ledger>(
         &mut self,
         who: &Asker,
@@ -148,10 +152,11 @@ impl Unit {
     ///
     /// The fault has the virtual address, and cause 6 where that isn't a multiple of the width in
     /// bytes, else the cause that is met first: 15 where the tables hold no leaf for the address or
-    /// the leaf doesn't permit the store, and 7 where a table, or at last the page, lies outside
-    /// RAM. Nothing is written then. A store costs four steps for each of the guest's tables that
-    /// it reads, none where it is misaligned, and three for its page where it reaches one, so at
-    /// most 15.
+    /// the leaf doesn't permit the store, and 7 where a table lies outside RAM or is a module's, or
+    /// at last the page lies outside RAM or the declarations of live modules don't admit the store;
+    /// then the fault names the page. Nothing is written then. A store costs four steps for each of
+    /// the guest's tables that it reads, none where it is misaligned, and three for its page where
+    /// it reaches one, so at most 15.
     pub fn store<L: Ledger>(
         &mut self,
         who: &Asker,

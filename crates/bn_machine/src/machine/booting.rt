@@ -11,6 +11,7 @@ use crate::hart::Hart;
 use crate::machine::Machine;
 use crate::{Loaded, Settings};
 use bn_frames::Frames;
+use bn_table::Table;
 use bn_types::{Frame, Gpn, NoMemory, Width};
 use bn_unit::Unit;
 use n_walk::{Nest, PoolEmpty};
@@ -46,9 +47,11 @@ impl Machine {
     }
 }
 
-/// The machine of a unit and harts that has made no event.
+/// The machine of a unit and harts that has made no event and launched no module.
+#[tactic(auto, unfolding(bn_model::specs::Rows::owners))]
 fn assemble(unit: Unit, harts: Vec<Hart>) -> Machine
-    requires { 0 < length harts.items }
+    requires some { 0 < length harts.items }
+    requires unowned { unit.live ≡ [] }
     ensures nest { result.parts.nest ≡ unit.nest }
     ensures state { result.state ≡ record {
       pages = contents unit.nest;
@@ -65,6 +68,7 @@ fn assemble(unit: Unit, harts: Vec<Hart>) -> Machine
     unit.facts();
     Machine {
         unit,
+        table: Table::empty(),
         harts,
         clock: 0,
         off: false,

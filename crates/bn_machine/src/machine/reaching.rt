@@ -1,5 +1,5 @@
 //! Accesses of a hart to memory.
-ghost use Rattle.std.specs.Prelude.{◌≡◌, ◌+◌, ◌*◌, ◌^◌, ◌<◌, ◌≤◌, [], IfOk, length};
+ghost use Rattle.std.specs.Prelude.{◌≡◌, ◌+◌, ◌*◌, ◌^◌, ◌<◌, ◌≤◌, IfOk, length};
 ghost use Rattle.bn_types.specs.Numbers.{bytes_of};
 ghost use Rattle.bn_model.specs.Accessing.{access, answer_of_load, pages_after_store};
 ghost use Rattle.bn_model.specs.State.{asker, memory};
@@ -12,14 +12,12 @@ use std::sync::ledger::Ledger;
 
 impl Machine {
     /// The word at hart h's pc.
-    #[tactic(auto, unfolding(bn_model::specs::Rows::owners))]
     pub(super) fn fetch<L: Ledger>(&mut self, h: u8, steps: &mut Steps<L>) -> Result<u32, Fault>
         requires { h < length self.old.state.harts }
         ensures word { let s = self.old.state in let hart = hart_outside s h in result
             ≡ answer_of_load s.pages Width.B4
             (access (memory s) (asker h hart) Kind.Fetch hart.pc Width.B4) }
         ensures kept { self.new.state ≡ self.old.state }
-        ensures empty { self.old.state.rows ≡ [] }
         ensures few { steps.new ≤ steps.old + 15 }
     {
         let hart = &self.harts[h as usize];
@@ -28,7 +26,6 @@ impl Machine {
     }
 
     /// The number of a width that hart h loads from a virtual address.
-    #[tactic(auto, unfolding(bn_model::specs::Rows::owners))]
     pub(super) fn load_number<L: Ledger>(
         &mut self,
         h: u8,
@@ -49,7 +46,6 @@ impl Machine {
     }
 
     /// Hart h stores the low bytes of a value to a virtual address.
-    #[tactic(auto, unfolding(bn_model::specs::Rows::owners))]
     pub(super) fn store_number<L: Ledger>(
         &mut self,
         h: u8,

@@ -1,7 +1,7 @@
 //! Turns.
 ghost use Rattle.std.specs.Prelude.{◌≡◌, ◌+◌, ◌-◌, ◌^◌, ◌<◌, ◌≤◌, ◌%◌, ◌↔◌, [], IsOk, IsTrue, None, Some, OnErr, OnOk, false, true, length};
 ghost use Rattle.bn_model.specs.Acting.{act_of};
-ghost use Rattle.bn_model.specs.Deciding.{asked_if_started, asked_of, asked_of_insn, asked_of_interrupt};
+ghost use Rattle.bn_model.specs.Deciding.{asked_if_started, asked_of, asked_of_denial, asked_of_insn, asked_of_interrupt};
 ghost use Rattle.bn_model.specs.Decoding.{insn_of};
 ghost use Rattle.bn_model.specs.InsnRanges.{IsActInRange, IsInRange};
 ghost use Rattle.bn_model.specs.Interrupts.{interrupt_of, wires_of};
@@ -10,13 +10,13 @@ ghost use Rattle.bn_model.specs.Standing.{StandsFor};
 ghost use Rattle.bn_model.specs.State.{hart_at};
 ghost use Rattle.bn_model.specs.Stepping as flat;
 ghost use Rattle.bn_machine.specs.Built.{is_built_event};
-ghost use Rattle.bn_machine.specs.Making.{MakesAsked, MakesTurn};
+ghost use Rattle.bn_machine.specs.Making.{MakesAsked, MakesTurn, Resumes};
 ghost use Rattle.bn_machine.specs.Outside.{hart_outside};
 ghost use Rattle.bn_machine.specs.Within.{JumpsAligned};
 
 use crate::machine::Machine;
 use crate::{LineBuf, Unbuilt};
-use bn_types::{Act, Cause, Event, Insn, Kind, Steps};
+use bn_types::{Act, Cause, Event, Fault, Insn, Kind, Steps, Vpn};
 use rv_csr::Wires;
 use rv_exec::act;
 use rv_insn::decode;
@@ -167,10 +167,42 @@ impl Machine {
     {
         match self.fetch(h, steps) {
             Ok(word) => self.execute(h, word, lines, steps),
-            Err(fault) => {
-                self.fail(h, Kind::Fetch, &fault, lines);
-                Ok(())
-            }
+            Err(fault) => self.fail_fetch(h, &fault, lines),
+        }
+    }
+
+    /// Takes the trap of a fetch that failed, but where a stopped module goes on, which isn't built
+    /// yet.
+    #[tactic(auto, using(crate::proofs::Unbuilt::resumption_unbuilt))]
+    fn fail_fetch(&mut self, h: u8, fault: &Fault, lines: &mut LineBuf) -> Result<(), Unbuilt>
+        requires hart { h < length self.old.state.harts }
+        requires clock { self.old.state.clock < 2 ^ 64 - 1 }
+        requires empty { lines.old ≡ [] }
+        ensures made { let s = self.old.state in
+            MakesAsked result self.old.state self.new.state lines.new h
+            (asked_of_denial s.rows (hart_outside s h) fault.now fault.now.denied) }
+    {
+        if self.resumes(h, fault) {
+            return Err(Unbuilt);
+        }
+        self.fail(h, Kind::Fetch, fault, lines);
+        Ok(())
+    }
+
+    /// Whether a stopped module goes on where hart h's fetch was denied.
+    fn resumes(&self, h: u8, fault: &Fault) -> bool
+        requires { h < length self.now.state.harts }
+        ensures { let s = self.now.state in Resumes result fault.now
+            (asked_of_denial s.rows (hart_outside s h) fault.now fault.now.denied) }
+    {
+        let hart = &self.harts[h as usize];
+        let pc = hart.pc();
+        match fault.denied {
+            Some(page) => self
+                .table
+                .stopped_at(page, Vpn(pc / 4096), pc, hart.mode())
+                .is_some(),
+            None => false,
         }
     }
 

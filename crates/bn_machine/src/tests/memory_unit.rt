@@ -1,11 +1,16 @@
 //! The memory unit over a small RAM, called as a machine calls it.
-ghost use Rattle.std.specs.Prelude.{◌≡◌, ◌≢◌, ◌+◌, ◌<◌, ℕ, None, length, replicate};
+ghost use Rattle.std.specs.Prelude.{◌≡◌, ◌≢◌, ◌+◌, ◌<◌, ℕ, [], None, length, replicate};
 ghost use Rattle.bn_types.specs.Numbers.{zero_page};
 ghost use Rattle.bn_model.specs.Nesting.{place};
+ghost use Rattle.bn_shadow.specs.Counting.{LieInRam};
 ghost use Rattle.bn_unit.specs.Memory.{AllPlaced};
 
+use arrayvec::ArrayVec;
 use bn_frames::Frames;
-use bn_types::{Asker, Cause, Fault, Gpn, ModId, Mode, PageState, Pages, Steps, Width};
+use bn_types::{
+    Asker, Cause, Decl, Digest, Fault, Gpn, Judged, ModId, Mode, PageState, Pages, Rights, Row,
+    RowState, SavedFrame, Sort, Steps, Vpn, Width,
+};
 use bn_unit::{Unit, View};
 use n_walk::Nest;
 use std::alloc::Global;
@@ -61,7 +66,10 @@ fn place_all(rt: &impl Abort, frames: Frames) -> Nest
     nest
 }
 
-fn unit_of(rt: &impl Abort, alloc: Global) -> Unit {
+fn unit_of(rt: &impl Abort, alloc: Global) -> Unit
+    ensures live { result.live ≡ [] }
+    ensures ram { result.nest.ram ≡ 16 }
+{
     let frames = Frames::zeroed(alloc, 23).expect(rt, "memory");
     let nest = place_all(rt, frames);
     Unit::build(alloc, nest, 16, 1).expect(rt, "memory")
@@ -189,11 +197,10 @@ fn third_page() -> [u8; 4096] {
 }
 
 /// Page 3 is read over other bytes.
-fn expect_third_page<L: Ledger>(rt: &impl Abort, view: &View<'_>, steps: &mut Steps<L>)
-    requires { 3 < view.now.ram }
-{
+fn expect_third_page<L: Ledger>(rt: &impl Abort, view: &View<'_>, steps: &mut Steps<L>) {
     let mut bytes = [0xff; 4096];
-    view.read_page(Gpn(3), &mut bytes, steps);
+    assert!(rt; view.read_page(Gpn(3), &mut bytes, steps));
+    assert!(rt; !view.read_page(Gpn(16), &mut [0; 4096], steps));
     assert_eq!(rt; bytes.as_slice(), third_page().as_slice());
 }
 
@@ -213,6 +220,90 @@ fn try_view<L: Ledger>(rt: &impl Abort, alloc: Global, blank: Blank)
     assert_eq!(rt; view.word(Gpn(16), 8, &mut steps), None);
     assert_eq!(rt; unit.ram_pages(), 16);
     expect_third_page(rt, &view, &mut steps);
+}
+
+/// Module 1, with page 5 as private data where it lies in Bare.
+fn module_row() -> Row
+    ensures { LieInRam 16 result.judged.decls.items }
+{
+    let mut decls = ArrayVec::new();
+    decls.push(Decl {
+        vpn: Vpn(0x80005),
+        gpn: Gpn(5),
+        sort: Sort::Private,
+        rights: Rights(3),
+        mask: 0,
+        source: ModId(0),
+    });
+    Row {
+        id: ModId(1),
+        judged: Judged {
+            digest: Digest([1; 32]),
+            mode: Mode::S,
+            entries: ArrayVec::new(),
+            decls,
+            partners: ArrayVec::new(),
+        },
+        state: RowState::Idle,
+        saved: SavedFrame::zero(),
+        caller: ModId(0),
+        back: SavedFrame::zero(),
+    }
+}
+
+fn denied(cause: u64, va: u64, page: u32) -> Fault {
+    Fault {
+        denied: Some(Gpn(page)),
+        ..failed(cause, va)
+    }
+}
+
+/// One who asks in a module.
+fn inside(module: u16) -> Asker
+    ensures { result.satp ≡ 0 }
+{
+    Asker {
+        module: ModId(module),
+        ..bare()
+    }
+}
+
+fn try_owned<L: Ledger>(rt: &impl Abort, alloc: Global, blank: Blank)
+    requires name { blank.name ≡ L.name }
+    requires parts { blank.parts ≡ L.parts }
+    requires some { 0 < L.parts }
+{
+    let mut steps = Steps::<L>::open(blank);
+    let mut unit = unit_of(rt, alloc);
+    unit.own(&module_row());
+    let load = unit.load(&bare(), 0x80005008, Width::B8, &mut steps);
+    assert_eq!(rt; load, Err(denied(5, 0x80005008, 5)));
+    let store = unit.store(&inside(2), 0x80005008, Width::B8, 7, &mut steps);
+    assert_eq!(rt; store, Err(denied(7, 0x80005008, 5)));
+    let store = unit.store(&inside(1), 0x80005008, Width::B8, 7, &mut steps);
+    assert_eq!(rt; store, Ok(()));
+    let load = unit.load(&inside(1), 0x80005008, Width::B8, &mut steps);
+    assert_eq!(rt; load, Ok(7));
+    let fetch = unit.fetch(&inside(1), 0x80005008, &mut steps);
+    assert_eq!(rt; fetch, Err(denied(1, 0x80005008, 5)));
+    let load = unit.load(&inside(1), 0x80006000, Width::B8, &mut steps);
+    assert_eq!(rt; load, Ok(0));
+    let fetch = unit.fetch(&inside(1), 0x80006000, &mut steps);
+    assert_eq!(rt; fetch, Err(denied(1, 0x80006000, 6)));
+    expect_owned(rt, &unit.view(), &mut steps);
+}
+
+/// Page 5 is a module's: no table is read there, nor a word.
+fn expect_owned<L: Ledger>(rt: &impl Abort, view: &View<'_>, steps: &mut Steps<L>) {
+    assert_eq!(rt; view.state(Gpn(4)), PageState::Free);
+    assert_eq!(rt; view.state(Gpn(5)), PageState::Owned);
+    assert_eq!(rt; view.word(Gpn(5), 8, steps), None);
+    assert!(rt; !view.read_page(Gpn(5), &mut [0; 4096], steps));
+}
+
+#[test]
+fn an_owned_page_is_its_modules_alone(rt: HostRuntime) {
+    try_owned::<Brand>(&rt, rt.alloc(), Blank::new(1));
 }
 
 #[test]

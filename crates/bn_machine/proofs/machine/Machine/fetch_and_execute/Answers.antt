@@ -8,4 +8,4 @@ returns-in-Ok-clause-made g c =
 
 pub returns-in-Err-clause-made : goal.returns-in-Err-clause-made
 returns-in-Err-clause-made g c =
-    made-unfetched _ _ _ _ _ c.in-Err.fault c.fetch.ensures.kept c.fetch.ensures.empty (sym c.fetch.ensures.word ∙ c.in-Err.is) c.fail.ensures.made
+    made-unfetched _ _ _ _ _ _ c.in-Err.fault c.fetch.ensures.kept (sym c.fetch.ensures.word ∙ c.in-Err.is) c.fail_fetch.ensures.made

@@ -1,12 +1,13 @@
-use Rattle.std.proofs.Common.{◌<◌, length, subst, ◌∙◌, arith}
+use Rattle.std.proofs.Common.{◌<◌, None, length, subst, sym, ◌∙◌, arith}
 use Rattle.sha2.specs.Hashers.{Holds256}
-use Rattle.bn_model.specs.Nesting.{contents}
-use Rattle.bn_machine.proofs.Filling.{concat-take}
+use Rattle.bn_model.specs.Memory.{visible}
+use Rattle.bn_unit.specs.Memory.{memory_of}
+use Rattle.bn_machine.proofs.PublicPages.{flat_map-take, words-take}
 use Rattle.bn_machine.proofs.machine.digesting.digest_pages.Goals as goal
 
 pub loop-page-preserved : goal.loop-page-preserved
 loop-page-preserved g c =
-    let pages = contents c.args.pages.now in
-    let below : c.loop-page.page < length pages = omega arith in
-    let more = concat-take pages c.loop-page.page c.as_slice.result.now below (c.as_slice.ensures ∙ c.read_page.ensures.bytes) in
-    (subst (Holds256 c.update.new.self) more (c.update.ensures _ c.loop-page.invariant.0), omega arith)
+    let seen = visible (memory_of c.args.pages.now) in
+    let below : c.loop-page.page < length seen = omega arith in
+    (subst (Holds256 c.add_page.new.hasher) (sym (flat_map-take seen c.loop-page.page below)) (c.add_page.ensures.added _ c.loop-page.invariant.0),
+    words-take seen c.loop-page.page _ _ _ below c.loop-page.invariant.1 c.add_page.ensures.read)
