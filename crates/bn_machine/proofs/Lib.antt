@@ -5,6 +5,6 @@ pub mod PublicPages
 pub mod Runs
 pub mod Serving
 pub mod Stories
-pub mod Unbuilt
+pub mod LeftTurns
 pub mod Wrote
 mod Turns

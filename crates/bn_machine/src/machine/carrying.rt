@@ -235,7 +235,7 @@ impl Machine {
     }
 
     /// A secure instruction; none that is legal is built yet.
-    #[tactic(auto, using(crate::proofs::Unbuilt::call_unbuilt, crate::proofs::Unbuilt::evict_unbuilt, crate::proofs::Unbuilt::launch_unbuilt))]
+    #[tactic(auto, using(crate::proofs::LeftTurns::call_unbuilt, crate::proofs::LeftTurns::evict_unbuilt, crate::proofs::LeftTurns::launch_unbuilt))]
     fn carry_out_secure(
         &mut self,
         h: u8,

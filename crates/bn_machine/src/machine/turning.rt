@@ -173,7 +173,7 @@ impl Machine {
 
     /// Takes the trap of a fetch that failed, but where a stopped module goes on, which isn't built
     /// yet.
-    #[tactic(auto, using(crate::proofs::Unbuilt::resumption_unbuilt))]
+    #[tactic(auto, using(crate::proofs::LeftTurns::resumption_unbuilt))]
     fn fail_fetch(&mut self, h: u8, fault: &Fault, lines: &mut LineBuf) -> Result<(), Unbuilt>
         requires hart { h < length self.old.state.harts }
         requires clock { self.old.state.clock < 2 ^ 64 - 1 }
