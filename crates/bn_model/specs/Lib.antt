@@ -5,6 +5,7 @@ pub mod Bits
 pub mod Blanking
 pub mod BlankingLaws
 pub mod Causes
+pub mod CommandLines
 pub mod CsrFile
 pub mod Deciding
 pub mod Decision
