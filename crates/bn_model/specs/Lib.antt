@@ -45,6 +45,7 @@ pub mod Standing
 pub mod State
 pub mod Stepping
 pub mod StoredImages
+pub mod Storing
 pub mod Switching
 pub mod SwitchingLaws
 pub mod TableLaws
@@ -54,4 +55,6 @@ pub mod Trapping
 pub mod TwosComplement
 pub mod WalkLaws
 pub mod Walking
+pub mod WholeReports
+pub mod WholeRuns
 pub mod Words
