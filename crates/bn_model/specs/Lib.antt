@@ -1,6 +1,7 @@
 pub mod Accessing
 pub mod Acting
 pub mod Admission
+pub mod Assembling
 pub mod Bits
 pub mod Blanking
 pub mod BlankingLaws
@@ -15,6 +16,7 @@ pub mod Encoding
 pub mod Entries
 pub mod Evicting
 pub mod Fields
+pub mod Generating
 pub mod Hypervisor
 pub mod Images
 pub mod InsnRanges
@@ -46,6 +48,7 @@ pub mod State
 pub mod Stepping
 pub mod StoredImages
 pub mod Storing
+pub mod Summaries
 pub mod Switching
 pub mod SwitchingLaws
 pub mod TableLaws

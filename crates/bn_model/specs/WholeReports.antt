@@ -8,8 +8,10 @@ use Rattle.bn_types.specs.declared.record.Record.{Record}
 use Rattle.bn_model.specs.CommandLines.{Gen, Order, Run, RunOrder, order_of}
 use Rattle.bn_model.specs.Reporting.{Files, end_line}
 use Rattle.bn_model.specs.Running.{Course}
+use Rattle.bn_model.specs.Generating.{made_of}
 use Rattle.bn_model.specs.Spelling.{text_of}
 use Rattle.bn_model.specs.Storing.{Storage, committed}
+use Rattle.bn_model.specs.Summaries.{generated_start, summary}
 use Rattle.bn_model.specs.WholeRuns.{BadImage, BadScript, BadStore, Refusal, Refused, Start, course_of, finish_of, start_of}
 use Rattle.bn_model.specs.WholeRuns as before
 
@@ -74,3 +76,29 @@ report_of_start is_stored (Ok start) storage =
 unfoldable pub report_of_run : RunOrder → Files → Storage → Report
 report_of_run order files storage =
     report_of_start order.is_stored (start_of order files storage) storage
+
+-- ---- a generated run
+
+-- it opens no store and commits nothing
+abbrev pub report_of_generated : ℕ → Course → Storage → Report
+report_of_generated number run storage = record {
+  status = finish_status (finish_of run);
+  text = summary number run;
+  storage = storage;
+}
+
+unfoldable pub report_of_gen : ℕ → Storage → Report
+report_of_gen number storage =
+    report_of_generated number (course_of (generated_start (made_of number))) storage
+
+-- ---- the whole
+
+abbrev pub report_of_order : Option Order → Files → Storage → Report
+report_of_order None files storage =
+    record { status = Words; text = codes "words\n"; storage = storage }
+report_of_order (Some (Run order)) files storage = report_of_run order files storage
+report_of_order (Some (Gen number)) files storage = report_of_gen number storage
+
+-- what a call with these words comes to
+unfoldable pub report_of : List (List ℕ) → Files → Storage → Report
+report_of words files storage = report_of_order (order_of words) files storage
