@@ -35,9 +35,13 @@ abbrev pub takes_value : Name → Bool
 takes_value Store = false
 takes_value name = true
 
--- the options of `run`; `gen` has none
-abbrev pub run_names : List Name
-run_names = Ram ∷ Harts ∷ Steps ∷ ScriptFile ∷ Store ∷ Blinding ∷ Moves ∷ []
+-- the options of `run` on a machine whose pages stay in their frames, and all of them; `gen` has
+-- none
+abbrev pub still_names : List Name
+still_names = Ram ∷ Harts ∷ Steps ∷ ScriptFile ∷ Store ∷ Blinding ∷ []
+
+abbrev pub all_names : List Name
+all_names = Moves ∷ still_names
 
 -- the option of a name: there are no abbreviations
 abbrev pub named : List Name → List ℕ → Option Name
@@ -285,15 +289,20 @@ tool_name Generating = codes "gen"
 abbrev pub tool_of : List ℕ → Option Tool
 tool_of word = find (λ tool. bytes_eq (tool_name tool) word) (Running ∷ Generating ∷ [])
 
-abbrev pub order_by : Tool → List (List ℕ) → Option Order
-order_by Running words = items_from run_names Free words >>= run_of
-order_by Generating words = items_from [] Free words >>= gen_of
+abbrev pub order_by : (run_names : List Name) → Tool → List (List ℕ) → Option Order
+order_by run_names Running words = items_from run_names Free words >>= run_of
+order_by run_names Generating words = items_from [] Free words >>= gen_of
 
-abbrev pub order_if : (are_texts : Bool) → List (List ℕ) → Option Order
-order_if false words = None
-order_if true [] = None
-order_if true (word ∷ words) = tool_of word >>= (λ tool. order_by tool words)
+abbrev pub order_if : (are_texts : Bool) → List Name → List (List ℕ) → Option Order
+order_if false run_names words = None
+order_if true run_names [] = None
+order_if true run_names (word ∷ words) =
+    tool_of word >>= (λ tool. order_by run_names tool words)
 
--- what some words order; None where they are no command line
+-- what some words order, where `run` has these options; None where they are no command line
+unfoldable pub order_among : (run_names : List Name) → List (List ℕ) → Option Order
+order_among run_names words = order_if (list_all is_some_text words) run_names words
+
+-- what some words order
 unfoldable pub order_of : List (List ℕ) → Option Order
-order_of words = order_if (list_all is_some_text words) words
+order_of words = order_among all_names words

@@ -5,7 +5,7 @@ use Rattle.std.specs.Prelude.{ℕ, Bool, true, false, List, ◌++◌, codes, Opt
 use Rattle.bn_types.specs.declared.finish.Finish.{Finish}
 use Rattle.bn_types.specs.declared.finish.Finish.TheVariants as finish
 use Rattle.bn_types.specs.declared.record.Record.{Record}
-use Rattle.bn_model.specs.CommandLines.{Gen, Order, Run, RunOrder, order_of}
+use Rattle.bn_model.specs.CommandLines.{Gen, Name, Order, Run, RunOrder, all_names, order_among}
 use Rattle.bn_model.specs.Reporting.{Files, end_line}
 use Rattle.bn_model.specs.Running.{Course}
 use Rattle.bn_model.specs.Generating.{made_of}
@@ -99,6 +99,11 @@ report_of_order None files storage =
 report_of_order (Some (Run order)) files storage = report_of_run order files storage
 report_of_order (Some (Gen number)) files storage = report_of_gen number storage
 
+-- what a call with these words comes to, where `run` has these options
+unfoldable pub report_among : (run_names : List Name) → List (List ℕ) → Files → Storage → Report
+report_among run_names words files storage =
+    report_of_order (order_among run_names words) files storage
+
 -- what a call with these words comes to
 unfoldable pub report_of : List (List ℕ) → Files → Storage → Report
-report_of words files storage = report_of_order (order_of words) files storage
+report_of words files storage = report_among all_names words files storage
