@@ -3,6 +3,7 @@ pub mod AccessLemmas
 pub mod ActRanges
 pub mod ActingLemmas
 pub mod AsleepKept
+pub mod AssemblingLemmas
 pub mod BlankDecisions
 pub mod BlankLemmas
 pub mod BlankPages

@@ -1,10 +1,12 @@
 pub mod Accessing
 pub mod Acting
 pub mod Admission
+pub mod Assembling
 pub mod Bits
 pub mod Blanking
 pub mod BlankingLaws
 pub mod Causes
+pub mod CommandLines
 pub mod CsrFile
 pub mod Deciding
 pub mod Decision
@@ -14,6 +16,7 @@ pub mod Encoding
 pub mod Entries
 pub mod Evicting
 pub mod Fields
+pub mod Generating
 pub mod Hypervisor
 pub mod Images
 pub mod InsnRanges
@@ -44,6 +47,8 @@ pub mod Standing
 pub mod State
 pub mod Stepping
 pub mod StoredImages
+pub mod Storing
+pub mod Summaries
 pub mod Switching
 pub mod SwitchingLaws
 pub mod TableLaws
@@ -53,4 +58,6 @@ pub mod Trapping
 pub mod TwosComplement
 pub mod WalkLaws
 pub mod Walking
+pub mod WholeReports
+pub mod WholeRuns
 pub mod Words
