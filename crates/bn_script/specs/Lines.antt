@@ -31,7 +31,8 @@ count_of (Poke page offset byte) = 1
 count_of (Peek page offset) = 1
 
 -- the commands so far with those that a line orders
-abbrev pub with_ordered : List Command → Result (List Command) ScriptSort → Result (List Command) ScriptSort
+abbrev pub with_ordered
+    : List Command → Result (List Command) ScriptSort → Result (List Command) ScriptSort
 with_ordered commands (Ok ordered) = Ok (commands ++ ordered)
 with_ordered commands (Err fault) = Err fault
 

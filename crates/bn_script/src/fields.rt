@@ -9,7 +9,8 @@ use bn_types::{ScriptSort, read_numeral, split_first};
 
 /// The next field, and the rest after it. None where there is none.
 fn next_field(rest: &[u8]) -> Option<(&[u8], &[u8])>
-    ensures { pieces_after 32 rest.now ≡ field_and_more (option_map (λ x. (x.0.now, x.1.now)) result) }
+    ensures { pieces_after 32 rest.now
+        ≡ field_and_more (option_map (λ x. (x.0.now, x.1.now)) result) }
 {
     if rest.is_empty() {
         return None;

@@ -85,9 +85,9 @@ code_spelled n digits some most h =
     code_found (n - 1) digits (h ∙ ap Some whole) ∙ ap Some (sym (code_value n some most))
 
 -- a piece with no minus sign in front
-pub code_unsigned : (piece : List ℕ) → (get_or piece 0 0 == 45) ≡ false → value_of Code piece ≡ None
+pub no_minus : (piece : List ℕ) → (get_or piece 0 0 == 45) ≡ false → value_of Code piece ≡ None
 unfolding value_of
-code_unsigned piece other = go (guess Code piece)
+no_minus piece other = go (guess Code piece)
   where
     unlike : (piece digits : List ℕ) → (get_or piece 0 0 == 45) ≡ false → bytes_eq (45 ∷ digits) piece ≡ false
     unlike [] digits e = refl
@@ -102,9 +102,9 @@ code_unsigned piece other = go (guess Code piece)
     go (Some (pos code)) = refl
     go (Some (negsuc code)) = rw (unlike piece (decimal (suc code)) other) (none_and (nat_lt code (2 ^ 63)) code)
 
-pub piece_signed : (piece : List ℕ) → 0 < length piece → get_or piece 0 0 ≡ 45 → (45 ∷ drop 1 piece) ≡ piece
-piece_signed [] some e = grind arith
-piece_signed (byte ∷ rest) some e = ap (λ (x : ℕ). x ∷ rest) (sym e)
+pub with_minus : (piece : List ℕ) → 0 < length piece → get_or piece 0 0 ≡ 45 → (45 ∷ drop 1 piece) ≡ piece
+with_minus [] some e = grind arith
+with_minus (byte ∷ rest) some e = ap (λ (x : ℕ). x ∷ rest) (sym e)
 
 pub code_refused : (n : ℕ) (digits : List ℕ) → numeral_below (2 ^ 64) digits ≡ Some n → (0 < n → 2 ^ 63 < n) → value_of Code (45 ∷ digits) ≡ None
 code_refused zero digits h past = code_zero digits (number_within (2 ^ 64) (2 ^ 63 + 1) 0 digits h (omega arith))

@@ -13,7 +13,8 @@ use bn_types::{Digest, Finish, Kind, Request, split_first};
 
 /// The text of the next field, and the rest after it.
 fn begin(rest: &[u8]) -> Result<(&[u8], &[u8]), usize>
-    ensures pieces { IfOk result (λ x. pieces_after 32 rest.now ≡ x.0.now ∷ pieces_after 32 x.1.now) }
+    ensures pieces { IfOk result
+        (λ x. pieces_after 32 rest.now ≡ x.0.now ∷ pieces_after 32 x.1.now) }
     ensures left { IfOk result
         (λ x. flat.bytes_left (x.0.now ∷ pieces_after 32 x.1.now) + 1 ≡ length rest.now) }
     ensures missing { IfErr result (λ left. (left ≡ 0) × (pieces_after 32 rest.now ≡ [])) }

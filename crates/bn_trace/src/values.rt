@@ -1,5 +1,6 @@
 //! The values that a field's text can spell.
-ghost use Rattle.std.specs.Prelude.{◌≡◌, ◌+◌, ◌∷◌, ◌≤◌, ◌&&◌, ◌++◌, ◌<◌, ◌==◌, IfSome, codes, length, option_map, slice_index};
+ghost use Rattle.std.specs.Prelude.{◌≡◌, ◌+◌, ◌∷◌, ◌≤◌, ◌&&◌, ◌++◌, ◌<◌, ◌==◌};
+ghost use Rattle.std.specs.Prelude.{IfSome, codes, length, option_map, slice_index};
 ghost use Rattle.std.specs.Bool.{OnTrue};
 ghost use Rattle.std.specs.Str.{bytes_eq};
 ghost use Rattle.hex.specs.Hex.{decode_sized};
@@ -73,7 +74,7 @@ pub fn digest_of(piece: &[u8]) -> Option<Digest>
 }
 
 /// A code is below 0.
-#[tactic(auto, using(crate::proofs::ValueLemmas::code_unsigned, crate::proofs::ValueLemmas::piece_signed))]
+#[tactic(auto, using(crate::proofs::ValueLemmas::no_minus, crate::proofs::ValueLemmas::with_minus))]
 pub fn code_of(piece: &[u8]) -> Option<i64>
     ensures { result ≡ flat.value_of shape.Code piece.now }
 {
@@ -120,8 +121,8 @@ fn decode_digest(digits: &[u8]) -> Option<[u8; 32]>
 
 fn is_digest_text(bytes: &[u8], piece: &[u8]) -> bool
     requires { length bytes.now ≡ 32 }
-    ensures { result
-        ≡ (flat.is_in shape.Sha bytes.now && bytes_eq (spelled.field_text shape.Sha bytes.now) piece.now) }
+    ensures { result ≡ (flat.is_in shape.Sha bytes.now
+        && bytes_eq (spelled.field_text shape.Sha bytes.now) piece.now) }
 {
     let mut digits = [0; 64];
     encode(bytes, &mut digits);
@@ -167,8 +168,8 @@ fn is_word_text(word: u64, piece: &[u8]) -> bool
 }
 
 fn is_page_text(page: u64, piece: &[u8]) -> bool
-    ensures { result
-        ≡ (flat.is_in shape.Page page && bytes_eq (spelled.field_text shape.Page page) piece.now) }
+    ensures { result ≡ (flat.is_in shape.Page page
+        && bytes_eq (spelled.field_text shape.Page page) piece.now) }
 {
     let mut digits = [0; 16];
     encode(&page.to_be_bytes(), &mut digits);
