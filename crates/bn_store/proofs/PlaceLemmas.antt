@@ -1,20 +1,17 @@
 -- The place of an identity's record, as a binary search tells it.
-use Rattle.std.proofs.Common.{◌≡◌, ℕ, zero, suc, ◌+◌, ◌<◌, ◌≤◌, ◌⊎◌, inl, inr, Bool, true, false, List, [], ◌∷◌, ◌++◌, Option, Some, None, All, nat_lt, length, take, drop, get_or, set, refl, sym, ◌∙◌, ap, subst, ◌^◌, arith}
+use Rattle.std.proofs.Common.{◌≡◌, ℕ, zero, suc, ◌<◌, ◌≤◌, true, false, List, [], ◌∷◌, Some, None, nat_lt, length, get_or, set, refl, sym, ◌∙◌, ap, subst, ◌^◌, arith}
 use Rattle.std.proofs.lemmas.Bool.Decides.{nat_tests}
 use Rattle.std.proofs.lemmas.Cmp.{nat_list_cmp_total}
-use Rattle.std.proofs.lemmas.List.{get_or_past}
-use Rattle.std.proofs.lemmas.List.Elements.{All-head, All-tail}
-use Rattle.std.specs.Prelude.{IfSome}
 use Rattle.bn_types.specs.declared.set_refused.SetRefused.TheVariants.{BadIndex, Full}
 use Rattle.std.specs.Cmp.{IsTotalOrder}
 use Rattle.std.specs.Ordering.{ordering_index, ordering_reverse}
-use Rattle.std.specs.List.{HoldsAt, AllWithin, insert}
+use Rattle.std.specs.List.{HoldsAt, insert}
 use Rattle.std.specs.List.Sorted.{IsNonDecreasingBy, IsPartitionPoint}
 use Rattle.std.specs.declared.cmp.Ordering.{Ordering}
 use Rattle.std.specs.declared.cmp.Ordering.TheVariants.{Less, Equal, Greater}
 use Rattle.bn_types.specs.declared.digest.Digest.{Digest}
 use Rattle.bn_types.specs.declared.record.Record.{Record}
-use Rattle.bn_model.specs.Records.{identity_order, words_by, words_of, word_in, get_word, new_record, set_by, set_word, full_when, refused_place, refused_at, set_refusal, AreAbove, Ascend, IsWhole, AreRecords}
+use Rattle.bn_model.specs.Records.{identity_order, words_by, words_of, word_in, get_word, new_record, set_by, set_word, full_when, refused_place, refused_at, set_refusal, AreAbove, Ascend, AreRecords}
 use Rattle.bn_model.proofs.RecordLemmas.{AreRecords-set_word}
 
 -- ---- the order
@@ -138,23 +135,6 @@ refused_full records who index h e many =
   where
     none : (count : ℕ) → 64 ≤ count → nat_lt count 64 ≡ false
     none count many = grind (arith, nat_tests)
-
-words_whole : (records : List Record) (who : Digest) → All IsWhole records → IfSome (words_of records who) (λ words. length words ≡ 32)
-unfolding words_of
-words_whole [] who whole = tt
-words_whole (r ∷ rest) who whole = by_order (identity_order who r.who) (All-head IsWhole r rest whole) (words_whole rest who (All-tail IsWhole r rest whole))
-  where
-    by_order : (o : Ordering) → IsWhole r → IfSome (words_of rest who) (λ words. length words ≡ 32) → IfSome (words_by o r (words_of rest who)) (λ words. length words ≡ 32)
-    by_order Less one others = tt
-    by_order Equal one others = one.count
-    by_order Greater one others = others
-
-pub no_word : (records : List Record) (who : Digest) (index : ℕ) → All IsWhole records → 32 ≤ index → get_word records who index ≡ 0
-no_word records who index whole h = by_words (words_of records who) (words_whole records who whole)
-  where
-    by_words : (o : Option (List ℕ)) → IfSome o (λ words. length words ≡ 32) → word_in o index ≡ 0
-    by_words None e = refl
-    by_words (Some words) e = get_or_past words index 0 (omega (arith, e, h))
 
 -- ---- what a search in a slice of the records finds
 

@@ -1,49 +1,21 @@
 -- Reading one more of what stands in a row.
-use Rattle.std.proofs.Common.{◌≡◌, ◌≢◌, ℕ, zero, suc, ◌+◌, ◌*◌, ◌-◌, ◌<◌, ◌≤◌, ◌==◌, Bool, true, false, List, [], ◌∷◌, ◌++◌, Option, Some, None, length, take, drop, get_or, set, refl, sym, ◌∙◌, ap, arith, drop-drop, length-drop}
-use Rattle.std.proofs.lemmas.Bool.Decides.{nat_tests}
+use Rattle.std.proofs.Common.{◌≡◌, ℕ, zero, suc, ◌+◌, ◌*◌, ◌-◌, ◌<◌, ◌≤◌, true, false, List, [], ◌∷◌, ◌++◌, None, length, take, drop, get_or, set, refl, sym, ◌∙◌, ap, arith, drop-drop, length-drop}
 use Rattle.std.specs.Int.{from_le_bytes, w64}
 use Rattle.std.specs.Ordering.{is_lt}
 use Rattle.std.specs.declared.cmp.Ordering.{Ordering}
 use Rattle.std.specs.declared.cmp.Ordering.TheVariants.{Less, Equal, Greater}
 use Rattle.bn_types.specs.declared.record.Record.{Record}
-use Rattle.bn_model.specs.StoredImages.{magic_fault, unless_equal, unless_above, order_fault_after, words_in, record_of, records_in}
+use Rattle.bn_model.specs.StoredImages.{unless_above, order_fault_after, words_in, record_of, records_in}
 use Rattle.bn_model.specs.Records.{identity_order}
 use Rattle.bn_store.specs.Answers.{order_fault_at, order_fault_from}
 
 false_is_true : false ≡ true → ⊥
 false_is_true e = grind arith
 
--- ---- bytes of the magic
+-- ---- one word more, one record more
 
 one_more : (n : ℕ) → suc n ≡ n + 1
 one_more n = omega arith
-
-magic_step : (at from : ℕ) (magic text : List ℕ) → at < length magic → at < length text
-    → magic_fault from (drop at magic) (drop at text)
-    ≡ unless_equal (get_or text at 0 == get_or magic at 0) from (magic_fault (from + 1) (drop (suc at) magic) (drop (suc at) text))
-magic_step zero from (m ∷ magic) (b ∷ text) h k = refl
-magic_step (suc at) from (m ∷ magic) (b ∷ text) h k = magic_step at from magic text (omega (arith, h)) (omega (arith, k))
-magic_step at from [] text h k = absurd (omega (arith, h))
-magic_step at from (m ∷ magic) [] h k = absurd (omega (arith, k))
-
-equal : (a b : ℕ) → a ≡ b → (a == b) ≡ true
-equal a b e = grind (arith, nat_tests)
-
-unequal : (a b : ℕ) → a ≢ b → (a == b) ≡ false
-unequal a b ne = grind (arith, nat_tests)
-
-pub magic_right : (at : ℕ) (magic text : List ℕ) → at < length magic → at < length text → get_or text at 0 ≡ get_or magic at 0
-    → magic_fault at (drop at magic) (drop at text) ≡ magic_fault (at + 1) (drop (at + 1) magic) (drop (at + 1) text)
-magic_right at magic text h k e = magic_step at at magic text h k
-    ∙ ap (λ b. unless_equal b at (magic_fault (at + 1) (drop (suc at) magic) (drop (suc at) text))) (equal (get_or text at 0) (get_or magic at 0) e)
-    ∙ ap (λ n. magic_fault (at + 1) (drop n magic) (drop n text)) (one_more at)
-
-pub magic_wrong : (at : ℕ) (magic text : List ℕ) → at < length magic → at < length text → get_or text at 0 ≢ get_or magic at 0
-    → magic_fault at (drop at magic) (drop at text) ≡ Some at
-magic_wrong at magic text h k ne = magic_step at at magic text h k
-    ∙ ap (λ b. unless_equal b at (magic_fault (at + 1) (drop (suc at) magic) (drop (suc at) text))) (unequal (get_or text at 0) (get_or magic at 0) ne)
-
--- ---- one word more, one record more
 
 cons_ap : {A : Type 0} (a : A) (xs ys : List A) → xs ≡ ys → a ∷ xs ≡ a ∷ ys
 cons_ap a xs ys e = ap (λ l. a ∷ l) e
@@ -137,20 +109,10 @@ is_less Less e = refl
 is_less Equal e = absurd (false_is_true e)
 is_less Greater e = absurd (false_is_true e)
 
-not_less : (o : Ordering) (at : ℕ) (rest : Option ℕ) → is_lt o ≡ false → unless_above o at rest ≡ Some at
-not_less Less at rest e = absurd (false_is_true (sym e))
-not_less Equal at rest e = refl
-not_less Greater at rest e = refl
-
 pub order_right : (records : List Record) (n : ℕ) (d : Record) → 1 ≤ n → n < length records
     → is_lt (identity_order (get_or records (n - 1) d).who (get_or records n d).who) ≡ true → order_fault_from n records ≡ order_fault_from (n + 1) records
 order_right records n d low h above = order_place records n d low h
     ∙ ap (λ o. unless_above o (16 + 288 * n) (order_fault_from (n + 1) records)) (is_less (identity_order (get_or records (n - 1) d).who (get_or records n d).who) above)
-
-pub order_wrong : (records : List Record) (n : ℕ) (d : Record) → 1 ≤ n → n < length records
-    → is_lt (identity_order (get_or records (n - 1) d).who (get_or records n d).who) ≡ false → order_fault_from n records ≡ Some (16 + 288 * n)
-order_wrong records n d low h above = order_place records n d low h
-    ∙ not_less (identity_order (get_or records (n - 1) d).who (get_or records n d).who) (16 + 288 * n) (order_fault_from (n + 1) records) above
 
 -- past the last identity nothing is wrong
 pub order_all : (records : List Record) (n : ℕ) → 1 ≤ n → length records ≤ n → order_fault_from n records ≡ None

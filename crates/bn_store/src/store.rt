@@ -41,12 +41,9 @@ impl Store {
     /// other text is accepted.
     ///
     /// `Malformed` tells the first place where the text is wrong: its end where it has fewer than
-    /// 16 bytes; a
-    /// wrong byte of the magic; 8 where the count is above 64; the smaller of its length and the
-    /// length that
-    /// the count asks for where they differ; the place of an identity that isn't above the one
-    /// before.
-    /// `Memory` is free.
+    /// 16 bytes; a wrong byte of the magic; 8 where the count is above 64; the smaller of its
+    /// length and the length that the count asks for where they differ; the place of an identity
+    /// that isn't above the one before. `Memory` is free.
     pub fn from_image(alloc: Global, text: &[u8]) -> Result<Store, ImageError>
         ensures ok { IfOk result (λ store. stored text.now ≡ Stored store) }
         ensures err { IfErr result (IsImageFault text.now) }
@@ -79,8 +76,7 @@ impl Store {
     /// Sets a word of an identity, also to 0, and makes its words where it has none.
     ///
     /// `BadIndex`: the index is above 31. `Full`: the identity has no words, and 64 others have.
-    /// Both change
-    /// nothing.
+    /// Both change nothing.
     pub fn set(&mut self, who: &Digest, index: u64, value: u64) -> Result<(), SetRefused>
         ensures refused { refusal_of result ≡ set_refusal self.old who.now index }
         ensures ok { OnOk result (self.new ≡ set_word self.old who.now index value) }

@@ -1,5 +1,5 @@
 -- How a run of a vault's calls goes on.
-use Rattle.std.proofs.Common.{inl, inr, ⊎_elim, ◌≤◌, arith}
+use Rattle.std.proofs.Common.{inl, inr, ⊎_elim}
 use Rattle.bn_edge.specs.Accounts.{VaultAccount}
 use Rattle.bn_edge.specs.Areas.{Areas}
 use Rattle.bn_edge.specs.Crashes.{LeavesOnly}

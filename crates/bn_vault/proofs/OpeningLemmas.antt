@@ -1,12 +1,12 @@
 -- What areas open to, where the current one has the register's digest.
-use Rattle.std.proofs.Common.{◌≡◌, ◌≢◌, ◌⊎◌, inl, inr, Bool, true, false, ℕ, List, Option, Some, None, bytes_eq, refl, sym, ◌∙◌, ap, subst, arith}
+use Rattle.std.proofs.Common.{◌≡◌, ◌≢◌, inl, inr, Bool, true, false, ℕ, List, Option, Some, None, bytes_eq, refl, sym, ◌∙◌, ap, subst, arith}
 use Rattle.std.proofs.lemmas.Slice.Eq.{bytes_eq-Decides}
 use Rattle.sha2.specs.Sha256.{sha256}
-use Rattle.bn_edge.specs.Areas.{Areas, GivesArea, area_at, other_area}
-use Rattle.bn_edge.specs.Registers.{GivesRegister, replaced}
+use Rattle.bn_edge.specs.Areas.{Areas, area_at, other_area}
+use Rattle.bn_edge.specs.Registers.{replaced}
 use Rattle.bn_edge.specs.declared.area.Area.{Area}
 use Rattle.bn_edge.specs.declared.area.Area.TheVariants.{First, Second}
-use Rattle.bn_model.specs.Reopening.{Opened, Fresh, Holds, Mismatch, no_digest, holding, opens_by, opens}
+use Rattle.bn_model.specs.Reopening.{Fresh, Holds, no_digest, holding, opens_by, opens}
 use Rattle.bn_model.specs.StoredImages.{stored}
 use Rattle.bn_vault.specs.Committing.{HasNoTwins, committed}
 use Rattle.bn_vault.specs.Openings.{opening_of, IsCurrentIn, IsCurrent}
@@ -111,31 +111,3 @@ pub committed_is_current : (current : Area) (text : List ℕ) (a : Areas) (areas
 committed_is_current current text a areas None new e f = subst (λ h. IsCurrent (other_area current) areas h) (sym f) (subst (λ o. IsCurrent (other_area current) o None) (sym e) tt)
 committed_is_current First text a areas (Some old) new e f = subst (λ h. IsCurrent Second areas h) (sym f) (subst (λ o. IsCurrent Second o (Some (sha256 text))) (sym e) (inr refl))
 committed_is_current Second text a areas (Some old) new e f = subst (λ h. IsCurrent First areas h) (sym f) (subst (λ o. IsCurrent First o (Some (sha256 text))) (sym e) (inr refl))
-
--- ---- what is read
-
-areas_are : (areas : Option Areas) (a : Areas) (first second : List ℕ) → areas ≡ Some a → GivesArea areas First first → GivesArea areas Second second
-    → record { first = first; second = second } ≡ a
-areas_are areas a first second e gives gives' = same (subst (λ o. GivesArea o First first) e gives) (subst (λ o. GivesArea o Second second) e gives')
-  where
-    same : first ≡ a.first → second ≡ a.second → record { first = first; second = second } ≡ a
-    same p q = ap (λ l. record { first = l; second = second }) p ∙ ap (λ l. record { first = a.first; second = l }) q
-
-register_is : (held : Option (List ℕ)) (r register : List ℕ) → held ≡ Some r → GivesRegister held register → register ≡ r
-register_is held r register e gives = subst (λ o. GivesRegister o register) e gives
-
--- what is said of areas and register as they were read is said of them
-pub as_told : (areas : Option Areas) (held : Option (List ℕ)) (a : Areas) (r first second register : List ℕ) (P : Areas → List ℕ → Type 0) → areas ≡ Some a → held ≡ Some r
-    → GivesArea areas First first → GivesArea areas Second second → GivesRegister held register
-    → P (record { first = first; second = second }) register → P a r
-as_told areas held a r first second register P e f gives gives' given is =
-    subst (λ o. P o r) (areas_are areas a first second e gives gives')
-    (subst (λ l. P (record { first = first; second = second }) l) (register_is held r register f given) is)
-
-pub is_current : (current : Area) (areas : Option Areas) (held : Option (List ℕ)) (first second register : List ℕ)
-    → GivesArea areas First first → GivesArea areas Second second → GivesRegister held register
-    → IsCurrentIn current (record { first = first; second = second }) register → IsCurrent current areas held
-is_current current None held first second register gives gives' given is = tt
-is_current current (Some a) None first second register gives gives' given is = tt
-is_current current (Some a) (Some r) first second register gives gives' given is =
-    as_told (Some a) (Some r) a r first second register (IsCurrentIn current) refl refl gives gives' given is

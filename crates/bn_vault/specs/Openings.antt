@@ -1,9 +1,9 @@
 -- What an opened store says of the areas and the register that it was read from.
-use Rattle.std.specs.Prelude.{◌≡◌, ◌⊎◌, ℕ, Bool, true, false, List, [], Option, Some, None, Result, Ok, Err}
+use Rattle.std.specs.Prelude.{◌≡◌, ◌⊎◌, ℕ, Bool, true, false, List, [], Option, Some, None, bytes_eq}
 use Rattle.sha2.specs.Sha256.{sha256}
 use Rattle.bn_edge.specs.Areas.{Areas, area_at}
 use Rattle.bn_edge.specs.declared.area.Area.{Area}
-use Rattle.bn_edge.specs.declared.area.Area.TheVariants.{Second}
+use Rattle.bn_edge.specs.declared.area.Area.TheVariants.{First, Second}
 use Rattle.bn_types.specs.declared.record.Record.{Record}
 use Rattle.bn_model.specs.StoredImages.{Stored, Malformed, stored}
 use Rattle.bn_model.specs.Reopening.{Opened, Fresh, Holds, Mismatch, no_digest, opens}
@@ -24,12 +24,19 @@ IsCurrent current None register = Unit {0}
 IsCurrent current (Some areas) None = Unit {0}
 IsCurrent current (Some areas) (Some register) = IsCurrentIn current areas register
 
+-- the first area is current where it has the register's digest
+abbrev pub current_by : Bool → Area
+current_by true = First
+current_by false = Second
+
 -- what is opened: an empty store with Second as the current area, or the records that the areas
--- open to
+-- open to, with the first area that has the register's digest as the current one
 abbrev pub IsOpened : Bool → List Record → Area → Areas → List ℕ → Type 0
 IsOpened true records current areas register =
     (opening_of areas register ≡ Fresh) × (records ≡ []) × (current ≡ Second)
-IsOpened false records current areas register = opening_of areas register ≡ Holds (Stored records)
+IsOpened false records current areas register =
+    (opening_of areas register ≡ Holds (Stored records))
+    × (current ≡ current_by (bytes_eq (sha256 areas.first) register))
 
 -- why nothing is opened
 abbrev pub IsRefused : ReopenFault → Areas → List ℕ → Type 0

@@ -15,9 +15,8 @@ use std::alloc::Global;
 /// they were.
 ///
 /// A register of 32 zeros is that of a new machine: the store is empty, whatever the areas hold,
-/// and
-/// the second area is current. Otherwise the first area whose SHA-256 digest is the register is
-/// current. `Malformed`: that area is no stored image. `Mismatch`: neither area has that digest.
+/// and the second area is current. Otherwise the first area whose SHA-256 digest is the register
+/// is current. `Malformed`: that area is no stored image. `Mismatch`: neither area has that digest.
 /// `Vault` and `Chip`: that object's call failed. `Memory` is free.
 pub fn reopen<V: Vault, C: Chip>(
     alloc: Global,

@@ -1,5 +1,4 @@
-use Rattle.std.proofs.Common.{◌∙◌, sym, get_or, arith}
-use Rattle.bn_types.specs.declared.record.Record.{Record}
+use Rattle.std.proofs.Common.{◌∙◌, sym}
 use Rattle.bn_store.proofs.ReadingLemmas.{order_right, order_all}
 use Rattle.bn_store.proofs.reading.find_order_fault.Goals as goal
 

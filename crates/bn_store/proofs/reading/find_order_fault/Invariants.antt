@@ -1,4 +1,4 @@
-use Rattle.std.proofs.Common.{◌≡◌, ◌+◌, ◌*◌, ◌≤◌, drop}
+use Rattle.std.proofs.Common.{◌≡◌}
 use Rattle.bn_model.specs.StoredImages.{order_fault}
 use Rattle.bn_store.specs.Answers.{order_fault_from}
 use Rattle.bn_store.proofs.reading.find_order_fault.Given as goal

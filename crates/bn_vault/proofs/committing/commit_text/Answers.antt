@@ -1,6 +1,6 @@
-use Rattle.std.proofs.Common.{◌≡◌, ◌∙◌, Some, ap, sym, subst, rules}
+use Rattle.std.proofs.Common.{◌≡◌, ◌∙◌, Some, ap, subst, rules}
 use Rattle.bn_edge.specs.Registers.{replaced}
-use Rattle.bn_edge.specs.Areas.{Areas, area_at, other_area, with_area}
+use Rattle.bn_edge.specs.Areas.{area_at, other_area, with_area}
 use Rattle.bn_edge.specs.Crashes.{IsStable}
 use Rattle.bn_vault.specs.Committing.{HasNoTwins}
 use Rattle.bn_vault.specs.Openings.{opening_of}

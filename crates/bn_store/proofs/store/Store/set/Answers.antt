@@ -1,4 +1,4 @@
-use Rattle.std.proofs.Common.{◌≡◌, None, sym, ap, subst, length, arith}
+use Rattle.std.proofs.Common.{sym, arith}
 use Rattle.bn_store.proofs.PlaceLemmas.{set_found, refused_found, set_missing, missing, refused_index, refused_new, refused_full, kept_by}
 use Rattle.bn_store.proofs.store.Store.set.Goals as goal
 
