@@ -9,5 +9,7 @@ use Rattle.bn_machine.proofs.machine.Machine.public_digest.Goals as goal
 pub returns-clause-digest : goal.returns-clause-digest
 returns-clause-digest g c =
     rw (← c.self.view_is)
-    (ap (λ digest. record { 0 = digest }) (c.digest_pages.ensures.digest ∙ ap (λ (n : Nested). sha256 (concat (contents n))) c.view.ensures)
+    (ap (λ digest. record { 0 = digest })
+    (c.digest_pages.ensures.digest
+    ∙ ap (λ (n : Nested). sha256 (concat (contents n))) c.view.ensures)
     ∙ sym (public_digest-unowned _ refl))

@@ -8,5 +8,8 @@ pub loop-page-preserved : goal.loop-page-preserved
 loop-page-preserved g c =
     let pages = contents c.args.pages.now in
     let below : c.loop-page.page < length pages = omega arith in
-    let more = concat-take pages c.loop-page.page c.as_slice.result.now below (c.as_slice.ensures ∙ c.read_page.ensures.bytes) in
-    (subst (Holds256 c.update.new.self) more (c.update.ensures _ c.loop-page.invariant.0), omega arith)
+    let more = concat-take pages c.loop-page.page c.as_slice.result.now below
+    (c.as_slice.ensures ∙ c.read_page.ensures.bytes) in (
+      subst (Holds256 c.update.new.self) more (c.update.ensures _ c.loop-page.invariant.0),
+      omega arith,
+    )
