@@ -46,8 +46,8 @@ fn words_of(alloc: Global, words: &[&[u8]]) -> Result<Vec<Text>, AllocError> {
 }
 
 /// The digest is `sha256sum` of the image and zeros up to 65,536 bytes.
-const HELLO: &[u8] =
-    b"out 2 0 41\nend 5 shutdown 48d90c977b53ec20b07888c1bdf036d118b09f1de941f94e52b090b174aa4048\n";
+const HELLO: &[u8] = b"out 2 0 41\n\
+    end 5 shutdown 48d90c977b53ec20b07888c1bdf036d118b09f1de941f94e52b090b174aa4048\n";
 
 #[test]
 fn a_word_is_as_long_as_it_is_given(rt: HostRuntime) -> Result<(), Fail> {

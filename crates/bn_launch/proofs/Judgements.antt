@@ -3,7 +3,6 @@ use Rattle.std.proofs.Common.{◌≡◌, ◌^◌, ◌<◌, List, length}
 use Rattle.std.proofs.lemmas.List.{length-map}
 use Rattle.std.proofs.lemmas.List.Elements.{All-weaker}
 use Rattle.bn_types.specs.declared.row.Row.{Row}
-use Rattle.bn_types.specs.declared.seg_page.SegPage.{SegPage}
 use Rattle.bn_types.specs.declared.segment.Segment.{Segment}
 use Rattle.bn_model.specs.Rows.{enclave_of, enclaves}
 use Rattle.bn_model.specs.SegmentLaws.{IsPage, IsSegment}

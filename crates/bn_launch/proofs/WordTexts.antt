@@ -1,5 +1,5 @@
 -- The bytes of a page, read by words.
-use Rattle.std.proofs.Common.{◌≡◌, ℕ, ◌+◌, ◌*◌, ◌++◌, ◌%◌, ◌<◌, ◌≤◌, List, length, take, drop}
+use Rattle.std.proofs.Common.{◌≡◌, ℕ, ◌+◌, ◌*◌, ◌++◌, ◌%◌, ◌<◌, List, take, drop}
 use Rattle.std.proofs.Common.{Option, Some, None, sym, ap, ◌∙◌, arith}
 use Rattle.std.specs.Prelude.{slice_get}
 use Rattle.std.proofs.lemmas.List.{drop-drop, take_all}
@@ -7,7 +7,7 @@ use Rattle.std.proofs.Math.Seq.{take-add}
 use Rattle.std.specs.Int.{to_le_bytes, w64}
 use Rattle.bn_types.specs.Numbers.{number_at}
 use Rattle.bn_types.specs.Visible.{state_at, state_of, word_at, word_of}
-use Rattle.bn_types.specs.declared.page_state.PageState.TheVariants.{Outside, Owned, Free}
+use Rattle.bn_types.specs.declared.page_state.PageState.TheVariants.{Free}
 use Rattle.bn_types.specs.declared.width.Width.TheVariants.{B8}
 use Rattle.bn_model.specs.Launching.{bytes_if_readable, bytes_on}
 use Rattle.bn_model.proofs.SegmentTexts.{word-text}

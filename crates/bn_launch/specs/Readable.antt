@@ -4,7 +4,7 @@ use Rattle.std.specs.List.{All}
 use Rattle.bn_types.specs.Visible.{state_at}
 use Rattle.bn_types.specs.declared.decl.Decl.{Decl}
 use Rattle.bn_types.specs.declared.gpn.Gpn.{Gpn}
-use Rattle.bn_types.specs.declared.page_state.PageState.TheVariants.{Outside, Owned, Free}
+use Rattle.bn_types.specs.declared.page_state.PageState.TheVariants.{Outside, Owned}
 use Rattle.bn_types.specs.declared.seg_page.SegPage.{SegPage}
 use Rattle.bn_model.specs.SegmentLaws.{AreBytes}
 

@@ -2,7 +2,10 @@
 use Rattle.std.proofs.Common.{◌≡◌, ℕ, ◌%◌, Bool, true, false, nat_eq, refl}
 use Rattle.std.proofs.lemmas.Bool.{eqb-true}
 use Rattle.bn_types.specs.declared.insn.Insn.{Insn}
-use Rattle.bn_types.specs.declared.insn.Insn.TheVariants.{Lui, Auipc, Jal, Jalr, Branch, Load, Store, Imm, Shift, Reg2, AddiW, ShiftW, Reg2W, Fence, Csr, Ecall, Ebreak, Sret, Wfi, SfenceVma, Bastion}
+use Rattle.bn_types.specs.declared.insn.Insn.TheVariants.{Lui, Auipc, Jal, Jalr, Branch, Load}
+use Rattle.bn_types.specs.declared.insn.Insn.TheVariants.{Store, Imm, Shift, Reg2, AddiW, ShiftW}
+use Rattle.bn_types.specs.declared.insn.Insn.TheVariants.{Reg2W, Fence, Csr, Ecall, Ebreak, Sret}
+use Rattle.bn_types.specs.declared.insn.Insn.TheVariants.{Wfi, SfenceVma, Bastion}
 use Rattle.bn_types.specs.declared.reg.Reg.{Reg}
 use Rattle.bn_types.specs.declared.regs.Regs.{Regs}
 use Rattle.bn_model.specs.Acting.{act_of, branch_if, holds, jump, jump_if, plus_immediate, register}
@@ -27,7 +30,8 @@ jumps_aligned (Auipc rd imm) regs pc = tt
 jumps_aligned (Jal rd offset) regs pc = jump_aligned _ rd pc
 jumps_aligned (Jalr rd base offset) regs pc = jump_aligned _ rd pc
 jumps_aligned (Branch test left right offset) regs pc =
-    branch_aligned (holds test (register regs left) (register regs right)) (plus_immediate pc offset) pc
+    branch_aligned (holds test (register regs left) (register regs right))
+    (plus_immediate pc offset) pc
 jumps_aligned (Load width signed rd base offset) regs pc = tt
 jumps_aligned (Store width base value offset) regs pc = tt
 jumps_aligned (Imm op rd left imm) regs pc = tt

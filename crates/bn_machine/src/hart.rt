@@ -16,7 +16,7 @@ const A0: Reg = Reg(10);
 
 const A1: Reg = Reg(11);
 
-/// A hart (Unprivileged ISA, "Hardware Threads").
+/// A hart (Unprivileged ISA, "RISC-V Software Execution Environments and Harts").
 #[derive(Debug, Drop)]
 pub struct Hart {
     regs: Regs,

@@ -1,5 +1,6 @@
 //! Image files.
-ghost use Rattle.std.specs.Prelude.{◌≡◌, ◌++◌, ◌-◌, ◌≤◌, ◌==◌, nat_eq, nat_lt, IfOk, length, replicate};
+ghost use Rattle.std.specs.Prelude.{◌≡◌, ◌++◌, ◌-◌, ◌≤◌, ◌==◌, nat_eq, nat_lt, IfOk, length};
+ghost use Rattle.std.specs.Prelude.{replicate};
 ghost use Rattle.std.specs.List.{starts_with};
 ghost use Rattle.bn_machine.specs.Loads.{Fills, plain};
 ghost use Rattle.bn_model.specs.Loading as flat;

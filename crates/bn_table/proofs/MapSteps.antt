@@ -1,6 +1,6 @@
 -- A list whose elements are changed one after another.
 use Rattle.std.proofs.Common.{◌≡◌, ℕ, ◌+◌, ◌-◌, ◌<◌, ◌≤◌, List, length, map, take, drop, get_or}
-use Rattle.std.proofs.Common.{set, refl, sym, ap, ◌∙◌, arith}
+use Rattle.std.proofs.Common.{set, sym, ap, ◌∙◌, arith}
 use Rattle.std.proofs.lemmas.List.{get_or-append_right, get_or-drop, get_or-map, length-map}
 use Rattle.std.proofs.lemmas.List.{length-take-le}
 use Rattle.bn_model.proofs.MixedLists.{mixed, set-mixed}

@@ -1,9 +1,8 @@
 -- Searches of rows, where the definitions search what never changes of them.
-use Rattle.std.proofs.Common.{◌≡◌, ℕ, Bool, List, map, find, Option, Some, None, option_map, refl}
+use Rattle.std.proofs.Common.{◌≡◌, ℕ, List, find, Option, Some, None, option_map, refl}
 use Rattle.std.proofs.Common.{ap, ◌∙◌}
 use Rattle.std.specs.List.{list_any}
 use Rattle.bn_types.specs.declared.digest.Digest.{Digest}
-use Rattle.bn_types.specs.declared.mod_id.ModId.{ModId}
 use Rattle.bn_types.specs.declared.rights.Rights.{Rights}
 use Rattle.bn_types.specs.declared.row.Row.{Row}
 use Rattle.bn_model.specs.Launching.{has_identity, id_if_some, offerer, offers}

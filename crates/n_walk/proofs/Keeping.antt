@@ -1,8 +1,7 @@
 -- What a nest keeps where a placed frame changes, and where a page is led to a free frame.
-use Rattle.std.proofs.Common.{◌≡◌, ℕ, ◌+◌, ◌%◌, ◌<◌, ◌≤◌, ◌⊎◌, List, [], Option, Some, None, length}
-use Rattle.std.proofs.Common.{set, inl, inr, refl, sym, ap, subst, ◌∙◌, arith, get_or-set_same}
+use Rattle.std.proofs.Common.{◌≡◌, ℕ, ◌+◌, ◌%◌, ◌<◌, ◌≤◌, List, [], Option, Some, None, length}
+use Rattle.std.proofs.Common.{set, refl, sym, ap, subst, ◌∙◌, arith, get_or-set_same}
 use Rattle.std.proofs.Common.{get_or-set_other}
-use Rattle.std.proofs.lemmas.Bool.{cases_eq}
 use Rattle.std.proofs.lemmas.List.{length-set}
 use Rattle.bn_types.specs.Numbers.{AreWhole, page_at, bytes_of, with_number}
 use Rattle.bn_types.specs.declared.width.Width.{Width}

@@ -7,7 +7,7 @@ use Rattle.std.proofs.lemmas.List.{length-set}
 use Rattle.bn_types.specs.Numbers.{AreWhole, number_at, page_at, with_number}
 use Rattle.bn_types.specs.declared.frame.Frame.{Frame}
 use Rattle.bn_types.specs.declared.width.Width.TheVariants.{B8}
-use Rattle.bn_model.specs.Nesting.{Nested, IsTree, entry_at, leaf_to, low_entry, low_tables}
+use Rattle.bn_model.specs.Nesting.{IsTree, entry_at, leaf_to, low_entry, low_tables}
 use Rattle.bn_model.specs.Nesting.{placed_in, pointer_to}
 use Rattle.bn_model.proofs.NestingLaws.{entry-other_frame, placed-at, placed-kept}
 use Rattle.bn_model.proofs.PageNumbers.{length-with_number, number_at-elsewhere}

@@ -1,5 +1,6 @@
 //! A machine as it begins.
-ghost use Rattle.std.specs.Prelude.{◌≡◌, ◌≢◌, ◌+◌, ◌*◌, ◌%◌, ◌<◌, ◌≤◌, ◌++◌, ◌∷◌, ℕ, [], None, Some, false, IfOk, OnOk, length, replicate, slice_set};
+ghost use Rattle.std.specs.Prelude.{◌≡◌, ◌≢◌, ◌+◌, ◌*◌, ◌%◌, ◌<◌, ◌≤◌, ◌++◌, ◌∷◌, ℕ, [], None};
+ghost use Rattle.std.specs.Prelude.{Some, false, IfOk, OnOk, length, replicate, slice_set};
 ghost use Rattle.bn_types.specs.Numbers.{page_at, zero_page};
 ghost use Rattle.bn_model.specs.Nesting.{contents, place, table_frames};
 ghost use Rattle.bn_model.specs.Opening as flat;
@@ -42,6 +43,7 @@ impl Machine {
         let unit = Unit::build(alloc, nest, settings.ram_pages, settings.harts)?;
         let harts = start_harts(alloc, settings.harts, image.entry)?;
         let machine = assemble(unit, harts);
+        // For the prover: the parts stand for a state of the flat machine.
         machine.stand();
         Ok(machine)
     }

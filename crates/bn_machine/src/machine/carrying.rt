@@ -3,7 +3,8 @@ ghost use Rattle.std.specs.Prelude.{◌≡◌, ◌+◌, ◌-◌, ◌^◌, ◌<�
 ghost use Rattle.bn_types.specs.Numbers.{bytes_of};
 ghost use Rattle.bn_model.specs.Accessing.{access, answer_of_load};
 ghost use Rattle.bn_model.specs.CsrFile.{csr_done};
-ghost use Rattle.bn_model.specs.Deciding.{counters_of, decision_of_csr, decision_of_fault, decision_of_load, decision_of_secure, decision_of_store};
+ghost use Rattle.bn_model.specs.Deciding.{counters_of, decision_of_csr, decision_of_fault};
+ghost use Rattle.bn_model.specs.Deciding.{decision_of_load, decision_of_secure, decision_of_store};
 ghost use Rattle.bn_model.specs.Decision as turn;
 ghost use Rattle.bn_model.specs.Decision.{Decision};
 ghost use Rattle.bn_model.specs.InsnRanges.{IsActInRange};

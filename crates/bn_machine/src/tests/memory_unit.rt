@@ -307,12 +307,12 @@ fn an_owned_page_is_its_modules_alone(rt: HostRuntime) {
 }
 
 #[test]
-fn a_leaf_of_two_mebibytes_is_aligned_in_the_unit(rt: HostRuntime) {
+fn a_leaf_of_two_mebibytes_is_aligned(rt: HostRuntime) {
     try_superpage::<Brand>(&rt, rt.alloc(), Blank::new(1));
 }
 
 #[test]
-fn the_unit_refuses_an_address_that_is_not_canonical(rt: HostRuntime) {
+fn non_canonical_addresses_are_refused(rt: HostRuntime) {
     try_non_canonical::<Brand>(&rt, rt.alloc(), Blank::new(1));
 }
 

@@ -4,4 +4,5 @@ use Rattle.bn_machine.proofs.number.number_between.Goals as goal
 
 pub returns-in-Err-clause-exact : goal.returns-in-Err-clause-exact
 returns-in-Err-clause-exact c =
-    sym (number_no_text c.args.least c.args.most c.args.word.now (omega arith) c.in-Err.ensures.cases.0)
+    sym (number_no_text c.args.least c.args.most c.args.word.now (omega arith)
+    c.in-Err.ensures.cases.0)

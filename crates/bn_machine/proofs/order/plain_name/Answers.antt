@@ -3,7 +3,8 @@ use Rattle.std.specs.Str.{is_utf8, IsUtf8}
 use Rattle.std.proofs.lemmas.Str.{IsUtf8-from_is_utf8, is_utf8-from_IsUtf8}
 use Rattle.bn_model.specs.Words.{is_name}
 use Rattle.bn_machine.proofs.order.plain_name.Goals as goal
-use Rattle.bn_machine.proofs.order.plain_name.Goals.{in_default-via-in-Ok+else-is_name, in_default-via-in_default}
+use Rattle.bn_machine.proofs.order.plain_name.Goals.{in_default-via-in-Ok+else-is_name}
+use Rattle.bn_machine.proofs.order.plain_name.Goals.{in_default-via-in_default}
 
 and_false : (b : Bool) → b && false ≡ false
 and_false true = refl
@@ -17,7 +18,11 @@ no_text name n unless = by_test (is_utf8 name) refl where
 
 pub returns-in-Ok : goal.returns-in-Ok
 returns-in-Ok c = (
-  rw (is_utf8-from_IsUtf8 c.args.name.now c.in-Ok.ensures.cases.1, sym c.is_name.ensures ∙ c.if-is_name.true) refl,
+  rw (
+    is_utf8-from_IsUtf8 c.args.name.now c.in-Ok.ensures.cases.1,
+    sym c.is_name.ensures
+        ∙ c.if-is_name.true,
+  ) refl,
   c.in-Ok.ensures.cases.0,
 )
 
@@ -25,5 +30,6 @@ pub returns-in_default : goal.returns-in_default
 returns-in_default c = elim c.in_default.branch [
   | in_default-via-in-Ok+else-is_name w ↦
       rw (sym w.is_name.ensures ∙ w.if-is_name.false) (and_false (is_utf8 c.args.name.now))
-  | in_default-via-in_default w ↦ no_text c.args.name.now (is_name c.args.name.now) w.in_default.ensures.cases.0
+  | in_default-via-in_default w ↦ no_text c.args.name.now (is_name c.args.name.now)
+      w.in_default.ensures.cases.0
 ]

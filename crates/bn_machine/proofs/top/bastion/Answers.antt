@@ -2,4 +2,7 @@ use Rattle.bn_machine.proofs.Stories as stories
 use Rattle.bn_machine.proofs.top.bastion.Goals as goal
 
 pub returns : goal.returns
-returns g c = record { promise = stories.promise _ _ _ _ c.serve.ensures.story c.serve.ensures.counted }
+returns g c = record {
+  promise = stories.promise _ _ _ _ c.serve.ensures.story
+      c.serve.ensures.counted;
+}

@@ -1,4 +1,4 @@
-use Rattle.std.proofs.Common.{◌<◌, length, ap, arith}
+use Rattle.std.proofs.Common.{arith}
 use Rattle.bn_model.specs.Rows.{change_at}
 use Rattle.bn_table.specs.Tables.{changed}
 use Rattle.bn_table.proofs.MapSteps.{map-step}

@@ -11,13 +11,16 @@ loop-offset-preserved c =
     let page = c.args.page.0 in
     let offset = c.loop-offset.offset in
     let byte = c.from.result in
-    let placed : place c.loop-offset.nest page ≡ Some c.args.frame = c.loop-offset.invariant.places page ∙ c.requires.placed in
+    let placed : place c.loop-offset.nest page ≡ Some c.args.frame =
+    c.loop-offset.invariant.places page ∙ c.requires.placed in
     let same : byte ≡ get_or c.args.bytes.now offset 0 = c.from.ensures in
     let small : byte < 256 = omega (arith, c.type_inv.bytes offset) in
     record {
       held =
           c.store.ensures.written page placed
-          ∙ ap (λ (pages : List (List ℕ)). set pages page (with_number B1 (get_or pages page []) offset byte)) c.loop-offset.invariant.held
+          ∙ ap (λ (pages : List (List ℕ)).
+          set pages page (with_number B1 (get_or pages page []) offset byte))
+          c.loop-offset.invariant.held
           ∙ byte_filled start page offset byte c.args.bytes.now (page_at start page)
           c.requires.inside (omega arith) (c.requires.size ∙ sym c.requires.whole) small same;
       places = λ other. c.store.ensures.places other ∙ c.loop-offset.invariant.places other;

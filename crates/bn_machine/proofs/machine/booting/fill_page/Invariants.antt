@@ -7,4 +7,5 @@ use Rattle.bn_machine.proofs.machine.booting.fill_page.Given as goal
 -- the page so far holds its bytes
 abbrev pub invariant-loop-offset : goal.invariant-loop-offset
 invariant-loop-offset l =
-    HasBytes l.initial.nest l.nest l.fn.page.0 (mixed l.offset l.bytes (page_at (contents l.initial.nest) l.fn.page.0))
+    HasBytes l.initial.nest l.nest l.fn.page.0
+    (mixed l.offset l.bytes (page_at (contents l.initial.nest) l.fn.page.0))

@@ -3,7 +3,8 @@ use Rattle.std.proofs.lemmas.List.{length-replicate}
 use Rattle.bn_types.specs.Numbers.{AreWhole, zero_page}
 use Rattle.bn_model.specs.Nesting.{contents}
 use Rattle.bn_model.specs.Opening.{pages_of}
-use Rattle.bn_machine.proofs.Filling.{all_filled, filled_more, page_inside, page_whole, range_is_page, whole_zeros}
+use Rattle.bn_machine.proofs.Filling.{all_filled, filled_more, page_inside, page_whole}
+use Rattle.bn_machine.proofs.Filling.{range_is_page, whole_zeros}
 use Rattle.bn_machine.proofs.machine.booting.place_image.Goals as goal
 
 pub fill_page-requires-clause-inside : goal.fill_page-requires-clause-inside
@@ -19,7 +20,8 @@ fill_page-requires-clause-whole c =
     let size : length (contents c.build-nest.result) ≡ c.args.ram_pages =
     ap length c.build-nest.ensures.contents ∙ length-replicate c.args.ram_pages zero_page in
     let below : c.loop-number.number < length (contents c.build-nest.result) = omega arith in
-    let whole : AreWhole (contents c.build-nest.result) = rw c.build-nest.ensures.contents (whole_zeros c.args.ram_pages) in
+    let whole : AreWhole (contents c.build-nest.result) =
+    rw c.build-nest.ensures.contents (whole_zeros c.args.ram_pages) in
     rw (c.place_page-frame.ensures.contents ∙ c.loop-number.invariant.held)
     (page_whole (contents c.build-nest.result) c.loop-number.number c.args.bytes.now whole below)
 
@@ -30,10 +32,25 @@ loop-number-preserved c =
     let below : c.loop-number.number < length (contents c.build-nest.result) = omega arith in
     let placing = c.place_page-frame.ensures in
     let filling = c.fill_page.ensures in
-    filled_more c.build-nest.result c.loop-number.nest c.place_page-frame.new.nest c.fill_page.new.nest c.loop-number.number
-    c.place_page-frame.result _ c.args.bytes.now below (range_is_page c.args.bytes.now c.loop-number.number) c.loop-number.invariant
-    (record { here = placing.placed; others = placing.others; held = placing.contents; ram = placing.ram; frames = placing.frames; spare = placing.count })
-    (record { held = filling.contents; places = filling.places; ram = filling.ram; free = filling.free; frames = filling.frames })
+    filled_more c.build-nest.result c.loop-number.nest c.place_page-frame.new.nest
+    c.fill_page.new.nest c.loop-number.number
+    c.place_page-frame.result _ c.args.bytes.now below
+    (range_is_page c.args.bytes.now c.loop-number.number) c.loop-number.invariant
+    (record {
+      here = placing.placed;
+      others = placing.others;
+      held = placing.contents;
+      ram = placing.ram;
+      frames = placing.frames;
+      spare = placing.count;
+    })
+    (record {
+      held = filling.contents;
+      places = filling.places;
+      ram = filling.ram;
+      free = filling.free;
+      frames = filling.frames;
+    })
 
 pub returns-clause-contents : goal.returns-clause-contents
 returns-clause-contents c =

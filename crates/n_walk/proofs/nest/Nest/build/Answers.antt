@@ -1,5 +1,5 @@
 use Rattle.std.proofs.Common.{◌≡◌, ◌+◌, ◌-◌, ℕ, length, ap, ◌∙◌, arith}
-use Rattle.bn_model.specs.Nesting.{low_tables, table_frames}
+use Rattle.bn_model.specs.Nesting.{table_frames}
 use Rattle.n_walk.specs.Building.{numbered}
 use Rattle.n_walk.proofs.Starting.{IsBuilt, built, holds-built, unplaced-built, contents-built}
 use Rattle.n_walk.proofs.Starting.{whole-if-zeros}

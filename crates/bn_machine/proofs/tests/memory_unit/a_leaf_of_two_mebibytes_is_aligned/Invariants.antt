@@ -1,4 +1,4 @@
-use Rattle.bn_machine.proofs.tests.memory_unit.a_leaf_of_two_mebibytes_is_aligned_in_the_unit.Given as goal
+use Rattle.bn_machine.proofs.tests.memory_unit.a_leaf_of_two_mebibytes_is_aligned.Given as goal
 
 -- the ledger is the blank's
 abbrev pub ghosts-try_superpage : goal.ghosts-try_superpage
