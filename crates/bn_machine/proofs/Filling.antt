@@ -1,6 +1,11 @@
 -- Pages that are filled with bytes, one after another.
-use Rattle.std.proofs.Common.{◌≡◌, ℕ, zero, suc, ◌+◌, ◌-◌, ◌*◌, ◌%◌, ◌^◌, ◌<◌, ◌≤◌, List, [], ◌∷◌, ◌++◌, take, drop, length, get_or, set, replicate, ◌≢◌, ◌⊎◌, inl, inr, Some, None, refl, sym, ap, ◌∙◌, arith, add-one, subst}
-use Rattle.std.proofs.lemmas.List.{append_assoc, length-append, length-take-le, length-drop, length-replicate, set-set, get_or-set_same, get_or-drop, get_or-replicate, get_or-append_right, replicate-append-replicate, append-nil}
+use Rattle.std.proofs.Common.{◌≡◌, ℕ, zero, suc, ◌+◌, ◌-◌, ◌*◌, ◌%◌, ◌^◌, ◌<◌, ◌≤◌, List, [], ◌∷◌}
+use Rattle.std.proofs.Common.{◌++◌, take, drop, length, get_or, set, replicate, ◌≢◌, ◌⊎◌, inl, inr}
+use Rattle.std.proofs.Common.{Some, None, refl, sym, ap, ◌∙◌, arith, add-one, subst}
+use Rattle.std.proofs.lemmas.List.{append_assoc, length-append, length-take-le, length-drop}
+use Rattle.std.proofs.lemmas.List.{length-replicate, set-set, get_or-set_same, get_or-drop}
+use Rattle.std.proofs.lemmas.List.{get_or-replicate, get_or-append_right}
+use Rattle.std.proofs.lemmas.List.{replicate-append-replicate, append-nil}
 use Rattle.std.proofs.lemmas.Bool.{cases_eq}
 use Rattle.std.proofs.lemmas.List.FromFn.{length-map-range_with_len, get_or-map-range_with_len}
 use Rattle.bn_types.specs.Numbers.{AreWhole, with_number, zero_page}
@@ -12,13 +17,15 @@ use Rattle.bn_model.specs.Nesting.{Nested, contents, place}
 use Rattle.bn_model.specs.State.{resting_hart}
 use Rattle.bn_types.specs.declared.frame.Frame.{Frame}
 
-set_split_suc : {A : Type 0} (l : List A) (i : ℕ) (a : A) → i < length l → take i l ++ a ∷ drop (suc i) l ≡ set l i a
+set_split_suc : {A : Type 0} (l : List A) (i : ℕ) (a : A) → i < length l
+    → take i l ++ a ∷ drop (suc i) l ≡ set l i a
 set_split_suc (x ∷ l) zero a h = refl
 set_split_suc (x ∷ l) (suc i) a h = ap (λ r. x ∷ r) (set_split_suc l i a (omega arith))
 set_split_suc [] i a h = absurd (omega arith)
 
 -- writing a byte sets it
-pub with_byte : (page : List ℕ) (offset byte : ℕ) → offset < length page → byte < 256 → with_number B1 page offset byte ≡ set page offset byte
+pub with_byte : (page : List ℕ) (offset byte : ℕ) → offset < length page → byte < 256
+    → with_number B1 page offset byte ≡ set page offset byte
 unfolding with_number
 with_byte page offset byte inside small =
     let e : byte % 2 ^ (8 * 1) % 256 ≡ byte = omega arith in
@@ -26,16 +33,20 @@ with_byte page offset byte inside small =
     ∙ rw (e, add-one) (set_split_suc page offset byte inside)
 
 -- one more byte of a page
-pub byte_filled : (pages : List (List ℕ)) (f offset byte : ℕ) (bytes old : List ℕ) → f < length pages → offset < length bytes
+pub byte_filled : (pages : List (List ℕ)) (f offset byte : ℕ) (bytes old : List ℕ)
+    → f < length pages → offset < length bytes
     → length bytes ≡ length old → byte < 256 → byte ≡ get_or bytes offset 0
-    → set (set pages f (mixed offset bytes old)) f (with_number B1 (get_or (set pages f (mixed offset bytes old)) f []) offset byte)
+    → set (set pages f (mixed offset bytes old)) f
+    (with_number B1 (get_or (set pages f (mixed offset bytes old)) f []) offset byte)
     ≡ set pages f (mixed (offset + 1) bytes old)
 byte_filled pages f offset byte bytes old inside below same small e =
     let now = mixed offset bytes old in
     let size : offset < length now = length_mixed in
     set-set pages f now (with_number B1 (get_or (set pages f now) f []) offset byte)
-    ∙ ap (λ page. set pages f (with_number B1 page offset byte)) (get_or-set_same pages f now [] inside)
-    ∙ ap (set pages f) (with_byte now offset byte size small ∙ ap (set now offset) e ∙ set-mixed offset bytes old 0 below same)
+    ∙ ap (λ page. set pages f (with_number B1 page offset byte))
+    (get_or-set_same pages f now [] inside)
+    ∙ ap (set pages f) (with_byte now offset byte size small ∙ ap (set now offset) e
+    ∙ set-mixed offset bytes old 0 below same)
   where
     length_mixed : offset < length (mixed offset bytes old)
     length_mixed =
@@ -44,13 +55,15 @@ byte_filled pages f offset byte bytes old inside below same small e =
         omega (arith, length-append (take offset bytes) (drop offset old))
 
 -- a page that isn't filled yet is as it was
-pub get_or-mixed : {A : Type 0} (i : ℕ) (new old : List A) (d : A) → i ≤ length new → get_or (mixed i new old) i d ≡ get_or old i d
+pub get_or-mixed : {A : Type 0} (i : ℕ) (new old : List A) (d : A) → i ≤ length new
+    → get_or (mixed i new old) i d ≡ get_or old i d
 get_or-mixed i new old d h =
     get_or-append_right (take i new) (drop i old) i i d (length-take-le i new h) (omega arith)
     ∙ get_or-drop i old (i - i) d
     ∙ ap (λ n. get_or old n d) (omega arith)
 
-pub length-mixed : {A : Type 0} (i : ℕ) (new old : List A) → i ≤ length new → length new ≡ length old → length (mixed i new old) ≡ length old
+pub length-mixed : {A : Type 0} (i : ℕ) (new old : List A) → i ≤ length new
+    → length new ≡ length old → length (mixed i new old) ≡ length old
 length-mixed i new old h e =
     let front = length-take-le i new h in
     let back = length-drop i old in
@@ -60,16 +73,21 @@ pub length-pages_of : (count : ℕ) (bytes : List ℕ) → length (pages_of coun
 unfolding pages_of
 length-pages_of count bytes = length-map-range_with_len (page_of bytes) 0 count
 
-pub get_or-pages_of : (count : ℕ) (bytes : List ℕ) (g : ℕ) → g < count → get_or (pages_of count bytes) g [] ≡ page_of bytes g
+pub get_or-pages_of : (count : ℕ) (bytes : List ℕ) (g : ℕ) → g < count
+    → get_or (pages_of count bytes) g [] ≡ page_of bytes g
 unfolding pages_of
-get_or-pages_of count bytes g h = get_or-map-range_with_len (page_of bytes) 0 count g g [] h (omega arith)
+get_or-pages_of count bytes g h =
+    get_or-map-range_with_len (page_of bytes) 0 count g g [] h (omega arith)
 
 -- one more page
-pub page_filled : (frames : List (List ℕ)) (g : ℕ) (bytes page : List ℕ) → g < length frames → page ≡ page_of bytes g
-    → set (mixed g (pages_of (length frames) bytes) frames) g page ≡ mixed (g + 1) (pages_of (length frames) bytes) frames
+pub page_filled : (frames : List (List ℕ)) (g : ℕ) (bytes page : List ℕ) → g < length frames
+    → page ≡ page_of bytes g
+    → set (mixed g (pages_of (length frames) bytes) frames) g page ≡
+    mixed (g + 1) (pages_of (length frames) bytes) frames
 page_filled frames g bytes page h e =
     let size = length-pages_of (length frames) bytes in
-    ap (set (mixed g (pages_of (length frames) bytes) frames) g) (e ∙ sym (get_or-pages_of (length frames) bytes g h))
+    ap (set (mixed g (pages_of (length frames) bytes) frames) g)
+    (e ∙ sym (get_or-pages_of (length frames) bytes g h))
     ∙ set-mixed g (pages_of (length frames) bytes) frames [] (omega arith) size
 
 pub whole_zeros : (count : ℕ) → AreWhole (replicate count zero_page)
@@ -78,19 +96,23 @@ whole_zeros count g inside =
     ap length (get_or-replicate count g zero_page [] below) ∙ length-zero_page
 
 -- one more hart that rests
-pub opening_harts_more : (count entry : ℕ) → 0 < count → opening_harts count entry ++ resting_hart ∷ [] ≡ opening_harts (count + 1) entry
+pub opening_harts_more : (count entry : ℕ) → 0 < count
+    → opening_harts count entry ++ resting_hart ∷ [] ≡ opening_harts (count + 1) entry
 opening_harts_more count entry h =
     let n : count - 1 + 1 ≡ count + 1 - 1 = omega arith in
-    ap (λ l. get_or (opening_harts count entry) 0 resting_hart ∷ l) (replicate-append-replicate (count - 1) 1 resting_hart ∙ ap (λ k. replicate k resting_hart) n)
+    ap (λ l. get_or (opening_harts count entry) 0 resting_hart ∷ l)
+    (replicate-append-replicate (count - 1) 1 resting_hart ∙ ap (λ k. replicate k resting_hart) n)
 
 -- the page at which the filling is
-pub page_inside : (frames : List (List ℕ)) (g : ℕ) (bytes : List ℕ) → g < length frames → g < length (mixed g (pages_of (length frames) bytes) frames)
+pub page_inside : (frames : List (List ℕ)) (g : ℕ) (bytes : List ℕ) → g < length frames
+    → g < length (mixed g (pages_of (length frames) bytes) frames)
 page_inside frames g bytes h =
     let size = length-pages_of (length frames) bytes in
     let all = length-mixed g (pages_of (length frames) bytes) frames (omega arith) size in
     omega arith
 
-pub page_whole : (frames : List (List ℕ)) (g : ℕ) (bytes : List ℕ) → AreWhole frames → g < length frames
+pub page_whole : (frames : List (List ℕ)) (g : ℕ) (bytes : List ℕ) → AreWhole frames
+    → g < length frames
     → length (get_or (mixed g (pages_of (length frames) bytes) frames) g []) ≡ 4096
 page_whole frames g bytes whole h =
     let size = length-pages_of (length frames) bytes in
@@ -100,10 +122,12 @@ page_whole frames g bytes whole h =
 pub all_filled : (frames : List (List ℕ)) (g : ℕ) (bytes : List ℕ) → g ≡ length frames
     → mixed g (pages_of (length frames) bytes) frames ≡ pages_of (length frames) bytes
 all_filled frames g bytes e =
-    mixed_all g (pages_of (length frames) bytes) frames (length-pages_of (length frames) bytes ∙ sym e) (sym e)
+    mixed_all g (pages_of (length frames) bytes) frames
+    (length-pages_of (length frames) bytes ∙ sym e) (sym e)
 
 -- page g as a range of the bytes
-pub range_is_page : (bytes : List ℕ) (g : ℕ) → take (g * 4096 + 4096 - g * 4096) (drop (g * 4096) bytes) ≡ page_of bytes g
+pub range_is_page : (bytes : List ℕ) (g : ℕ)
+    → take (g * 4096 + 4096 - g * 4096) (drop (g * 4096) bytes) ≡ page_of bytes g
 range_is_page bytes g =
     let size : g * 4096 + 4096 - g * 4096 ≡ 4096 = omega arith in
     let start : g * 4096 ≡ 4096 * g = omega arith in
@@ -137,7 +161,8 @@ pub record HasBytes (old new : Nested) (page : ℕ) (bytes : List ℕ) : Type 0 
   pub free : new.free ≡ old.free
   pub frames : length new.frames ≡ length old.frames
 
-pub filled_none : (start : Nested) (bytes : List ℕ) → ((p : ℕ) → place start p ≡ None) → IsFilled start start 0 bytes
+pub filled_none : (start : Nested) (bytes : List ℕ) → ((p : ℕ) → place start p ≡ None)
+    → IsFilled start start 0 bytes
 filled_none start bytes none = record {
   held = refl;
   ram = refl;
@@ -147,8 +172,10 @@ filled_none start bytes none = record {
   unplaced = λ p h. none p;
 }
 
-pub filled_more : (start old placed new : Nested) (page : ℕ) (frame : Frame) (chunk bytes : List ℕ) → page < length (contents start)
-    → chunk ≡ page_of bytes page → IsFilled start old page bytes → IsPlaced old placed page frame → HasBytes placed new page chunk
+pub filled_more : (start old placed new : Nested) (page : ℕ) (frame : Frame) (chunk bytes : List ℕ)
+    → page < length (contents start)
+    → chunk ≡ page_of bytes page → IsFilled start old page bytes → IsPlaced old placed page frame
+    → HasBytes placed new page chunk
     → IsFilled start new (page + 1) bytes
 filled_more start old placed new page frame chunk bytes below e f p b = record {
   held =
@@ -159,7 +186,8 @@ filled_more start old placed new page frame chunk bytes below e f p b = record {
   frames = b.frames ∙ p.frames ∙ f.frames;
   spare = let free = ap length b.free in let more = p.spare in let all = f.spare in omega arith;
   placed = λ q h. go q h (cases_eq q page);
-  unplaced = λ q h. b.places q ∙ p.others q (λ same. absurd (omega arith)) ∙ f.unplaced q (omega arith);
+  unplaced = λ q h. b.places q ∙ p.others q (λ same. absurd (omega arith))
+      ∙ f.unplaced q (omega arith);
 } where
   go : (q : ℕ) → q < page + 1 → (q ≡ page) ⊎ (q ≡ page → ⊥) → place new q ≢ None
   go q h (inl same) none =

@@ -3,7 +3,8 @@ use Rattle.std.specs.Prelude.{ℕ, ◌==◌, Bool, true, false, List}
 use Rattle.bn_types.specs.declared.event.Event.{Event}
 use Rattle.bn_types.specs.declared.event.Event.TheVariants.{Turn}
 use Rattle.bn_model.specs.Deciding.{decision_of}
-use Rattle.bn_model.specs.Decision.{Decision, Rest, Trap, Deny, Next, Set, Jump, Store, Csr, ReturnFromTrap, Put, Answer, ShutDown}
+use Rattle.bn_model.specs.Decision.{Decision, Rest, Trap, Deny, Next, Set, Jump, Store, Csr}
+use Rattle.bn_model.specs.Decision.{ReturnFromTrap, Put, Answer, ShutDown}
 use Rattle.bn_model.specs.Hypervisor.{not_supported}
 use Rattle.bn_model.specs.Reporting as flat
 use Rattle.bn_model.specs.Reporting.{Files, Report}

@@ -1,6 +1,8 @@
-ghost use Rattle.std.specs.Prelude.{◌≡◌, ℕ, List, [], ◌∷◌, ◌++◌, ◌+◌, ◌%◌, ◌^◌, ◌*◌, ◌<◌, ◌≤◌, ◌==◌, Some, Err, IfOk, length};
+ghost use Rattle.std.specs.Prelude.{◌≡◌, ℕ, List, [], ◌∷◌, ◌++◌, ◌+◌, ◌%◌, ◌^◌, ◌*◌, ◌<◌, ◌≤◌};
+ghost use Rattle.std.specs.Prelude.{◌==◌, Some, Err, IfOk, length};
 ghost use Rattle.bn_types.specs.Numbers.{AreWhole, bytes_of};
-ghost use Rattle.bn_model.specs.Accessing.{access, answer_of_load, guest_words, number_on, pages_after_store, pages_with, words_of_access};
+ghost use Rattle.bn_model.specs.Accessing.{access, answer_of_load, guest_words, number_on};
+ghost use Rattle.bn_model.specs.Accessing.{pages_after_store, pages_with, words_of_access};
 ghost use Rattle.bn_model.specs.Accessing as accessing;
 ghost use Rattle.bn_model.specs.Nesting.{IsNested, contents, place, table_frames};
 ghost use Rattle.bn_model.specs.Nesting as nesting;

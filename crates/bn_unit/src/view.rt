@@ -1,4 +1,5 @@
-ghost use Rattle.std.specs.Prelude.{◌≡◌, ◌+◌, ◌%◌, ◌<◌, ◌≤◌, ◌&&◌, length, nat_lt, not, replicate, slice_index_or, None};
+ghost use Rattle.std.specs.Prelude.{◌≡◌, ◌+◌, ◌%◌, ◌<◌, ◌≤◌, ◌&&◌, length, nat_lt, not, replicate};
+ghost use Rattle.std.specs.Prelude.{slice_index_or, None};
 ghost use Rattle.std.specs.Prelude as prelude;
 ghost use Rattle.bn_types.specs.Numbers.{page_at};
 ghost use Rattle.bn_model.specs.Memory.{visible};

@@ -1,5 +1,6 @@
 //! The digest of guest memory.
-ghost use Rattle.std.specs.Prelude.{◌≡◌, ◌+◌, ◌*◌, ◌++◌, ℕ, List, count_by, flat_map, is_some, length, slice_index_or, None};
+ghost use Rattle.std.specs.Prelude.{◌≡◌, ◌+◌, ◌*◌, ◌++◌, ℕ, List, count_by, flat_map, is_some};
+ghost use Rattle.std.specs.Prelude.{length, slice_index_or, None};
 ghost use Rattle.bn_model.specs.Memory.{visible};
 ghost use Rattle.bn_model.specs.Reporting as flat;
 ghost use Rattle.bn_model.specs.Reporting.{bytes_if_free};

@@ -1,7 +1,9 @@
 //! Turns.
-ghost use Rattle.std.specs.Prelude.{◌≡◌, ◌+◌, ◌-◌, ◌^◌, ◌<◌, ◌≤◌, ◌%◌, ◌↔◌, [], IsOk, IsTrue, None, Some, OnErr, OnOk, false, true, length};
+ghost use Rattle.std.specs.Prelude.{◌≡◌, ◌+◌, ◌-◌, ◌^◌, ◌<◌, ◌≤◌, ◌%◌, ◌↔◌, [], IsOk, IsTrue, None};
+ghost use Rattle.std.specs.Prelude.{Some, OnErr, OnOk, false, true, length};
 ghost use Rattle.bn_model.specs.Acting.{act_of};
-ghost use Rattle.bn_model.specs.Deciding.{asked_if_started, asked_of, asked_of_denial, asked_of_insn, asked_of_interrupt};
+ghost use Rattle.bn_model.specs.Deciding.{asked_if_started, asked_of, asked_of_denial};
+ghost use Rattle.bn_model.specs.Deciding.{asked_of_insn, asked_of_interrupt};
 ghost use Rattle.bn_model.specs.Decoding.{insn_of};
 ghost use Rattle.bn_model.specs.InsnRanges.{IsActInRange, IsInRange};
 ghost use Rattle.bn_model.specs.Interrupts.{interrupt_of, wires_of};

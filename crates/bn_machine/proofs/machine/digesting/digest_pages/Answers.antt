@@ -9,6 +9,7 @@ pub loop-page-preserved : goal.loop-page-preserved
 loop-page-preserved g c =
     let seen = visible (memory_of c.args.pages.now) in
     let below : c.loop-page.page < length seen = omega arith in (
-      subst (Holds256 c.add_page.new.hasher) (sym (flat_map-take seen c.loop-page.page below)) (c.add_page.ensures.added _ c.loop-page.invariant.0),
+      subst (Holds256 c.add_page.new.hasher) (sym (flat_map-take seen c.loop-page.page below))
+          (c.add_page.ensures.added _ c.loop-page.invariant.0),
       words-take seen c.loop-page.page _ _ _ below c.loop-page.invariant.1 c.add_page.ensures.read,
     )

@@ -10,4 +10,5 @@ use Rattle.bn_machine.proofs.machine.digesting.digest_pages.Given as goal
 abbrev pub invariant-loop-page : goal.invariant-loop-page
 invariant-loop-page g l =
     let seen = take l.page (visible (memory_of l.pages)) in
-    Holds256 l.hasher (flat_map bytes_if_free seen) × (l.steps ≡ l.initial.steps + 3 * count_by is_some seen)
+    Holds256 l.hasher (flat_map bytes_if_free seen) ×
+    (l.steps ≡ l.initial.steps + 3 * count_by is_some seen)

@@ -4,4 +4,5 @@ use Rattle.bn_unit.proofs.unit.Unit.reach.Goals as goal
 
 pub walk-requires-clause-few : goal.walk-requires-clause-few
 walk-requires-clause-few g c =
-    rw (length-visible, c.view.ensures) (omega (arith, c.facts.ensures.count, c.facts.ensures.range.1))
+    rw (length-visible, c.view.ensures)
+    (omega (arith, c.facts.ensures.count, c.facts.ensures.range.1))

@@ -4,14 +4,18 @@ use Rattle.bn_unit.proofs.view.ViewPages.state.Goals as goal
 
 pub returns-then-page-ram_pages : goal.returns-then-page-ram_pages
 returns-then-page-ram_pages c =
-    rw (← c.self.view_is) (sym (state-past_ram c.self.inside.nest.now c.self.inside.shadow.now.live c.args.page.0 (omega arith)))
+    rw (← c.self.view_is)
+    (sym (state-past_ram c.self.inside.nest.now c.self.inside.shadow.now.live c.args.page.0
+    (omega arith)))
 
 pub returns-then-owned : goal.returns-then-owned
 returns-then-owned c =
     rw (← c.self.view_is)
-    (sym (state-owned c.self.inside.nest.now c.self.inside.shadow.now.live c.args.page.0 (omega arith) (sym c.owned.ensures ∙ c.if-owned.true)))
+    (sym (state-owned c.self.inside.nest.now c.self.inside.shadow.now.live c.args.page.0
+    (omega arith) (sym c.owned.ensures ∙ c.if-owned.true)))
 
 pub returns-else-owned : goal.returns-else-owned
 returns-else-owned c =
     rw (← c.self.view_is)
-    (sym (state-free c.self.inside.nest.now c.self.inside.shadow.now.live c.args.page.0 (omega arith) (sym c.owned.ensures ∙ c.if-owned.false)))
+    (sym (state-free c.self.inside.nest.now c.self.inside.shadow.now.live c.args.page.0
+    (omega arith) (sym c.owned.ensures ∙ c.if-owned.false)))
