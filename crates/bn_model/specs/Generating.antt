@@ -1,7 +1,7 @@
 -- The generator (this project's own): from a number, an image and a script that try the secure
 -- machine. The image has a kernel, its trap handler and eight modules; the kernel launches all
 -- modules and then calls them in turn; the script interrupts them by keys and devices.
-use Rattle.std.specs.Prelude.{ℕ, zero, suc, ◌+◌, ◌-◌, ◌*◌, ◌/◌, ◌%◌, ◌^◌, true, List, [], ◌∷◌, ◌++◌, ℤ, pos, neg_ℤ, codes, decimal, flat_map, length, map, replicate}
+use Rattle.std.specs.Prelude.{ℕ, zero, suc, ◌+◌, ◌-◌, ◌*◌, ◌/◌, ◌%◌, ◌^◌, true, List, [], ◌∷◌, ◌++◌, ℤ, pos, neg_ℤ, codes, decimal, flat_map, length, replicate}
 use Rattle.std.specs.Int.{to_le_bytes, w32}
 use Rattle.std.specs.List.{range_with_len}
 use Rattle.hex.specs.Hex.{encode_lower}
