@@ -39,6 +39,7 @@ pub fn end(bytes: &mut ArrayVec<u8, 512>)
     bytes.push(b'\n');
 }
 
+/// A number, in decimal.
 pub fn put_number(bytes: &mut ArrayVec<u8, 512>, n: u64)
     requires { length bytes.old.items + 21 ≤ 512 }
     ensures text { bytes.new.items ≡ bytes.old.items ++ 32 ∷ decimal n }
@@ -58,6 +59,7 @@ pub fn put_place(bytes: &mut ArrayVec<u8, 512>, page: Gpn, offset: u16)
     put_number(bytes, u64::from(offset));
 }
 
+/// A number below 256, in decimal.
 pub fn put_small(bytes: &mut ArrayVec<u8, 512>, n: u8)
     requires { length bytes.old.items + 4 ≤ 512 }
     ensures text { bytes.new.items ≡ bytes.old.items ++ 32 ∷ decimal n }
@@ -67,6 +69,7 @@ pub fn put_small(bytes: &mut ArrayVec<u8, 512>, n: u8)
     put(bytes, buffer.format(n).as_bytes());
 }
 
+/// A byte.
 pub fn put_byte(bytes: &mut ArrayVec<u8, 512>, b: u8)
     requires { length bytes.old.items + 3 ≤ 512 }
     ensures text { bytes.new.items ≡ bytes.old.items ++ 32 ∷ encode_lower (b ∷ []) }
@@ -88,6 +91,7 @@ pub fn put_page(bytes: &mut ArrayVec<u8, 512>, page: u64)
     put(bytes, &digits[3..]);
 }
 
+/// 64 bits.
 pub fn put_word(bytes: &mut ArrayVec<u8, 512>, word: u64)
     requires { length bytes.old.items + 17 ≤ 512 }
     ensures text { bytes.new.items ≡ bytes.old.items ++ 32 ∷ flat.word_digits word }
@@ -98,6 +102,7 @@ pub fn put_word(bytes: &mut ArrayVec<u8, 512>, word: u64)
     put(bytes, &digits);
 }
 
+/// A digest.
 pub fn put_digest(bytes: &mut ArrayVec<u8, 512>, digest: Digest)
     requires { length bytes.old.items + 65 ≤ 512 }
     ensures text { bytes.new.items ≡ bytes.old.items ++ 32 ∷ encode_lower digest.0 }
@@ -118,6 +123,7 @@ pub fn put_code(bytes: &mut ArrayVec<u8, 512>, code: i64)
     put(bytes, buffer.format(code).as_bytes());
 }
 
+/// The kind of an access.
 pub fn put_kind(bytes: &mut ArrayVec<u8, 512>, kind: Kind)
     requires { length bytes.old.items + 6 ≤ 512 }
     ensures text { bytes.new.items ≡ bytes.old.items ++ 32 ∷ flat.kind_word kind }
@@ -130,6 +136,7 @@ pub fn put_kind(bytes: &mut ArrayVec<u8, 512>, kind: Kind)
     }
 }
 
+/// A request.
 pub fn put_request(bytes: &mut ArrayVec<u8, 512>, request: Request)
     requires { length bytes.old.items + 7 ≤ 512 }
     ensures text { bytes.new.items ≡ bytes.old.items ++ 32 ∷ flat.request_word request }
@@ -143,6 +150,7 @@ pub fn put_request(bytes: &mut ArrayVec<u8, 512>, request: Request)
     }
 }
 
+/// How a run ended.
 pub fn put_finish(bytes: &mut ArrayVec<u8, 512>, finish: Finish)
     requires { length bytes.old.items + 9 ≤ 512 }
     ensures text { bytes.new.items ≡ bytes.old.items ++ 32 ∷ flat.finish_word finish }
