@@ -23,6 +23,7 @@ IsAnswerOf file most (Ok bytes) = IsSomeAnd file (λ all. bytes.items ≡ take m
 IsAnswerOf file most (Err fault) = IsFaultOf file fault
 
 -- an answer agrees with the files, where they are told
-abbrev pub Agrees : Option (List (List ℕ × List ℕ)) → List ℕ → ℕ → Result (Vec ℕ Global) DeskFault → Type 0
+abbrev pub Agrees :
+    Option (List (List ℕ × List ℕ)) → List ℕ → ℕ → Result (Vec ℕ Global) DeskFault → Type 0
 Agrees None name most answer = Unit {0}
 Agrees (Some files) name most answer = IsAnswerOf (file_named files name) most answer

@@ -90,7 +90,8 @@ LeavesText-itself true text = inl refl
 
 -- what a read gives is among what a crash leaves
 pub reads_now :
-    (texts : List ℕ) (now : Standing) (a : Areas) → Some (areas_at texts now) ≡ Some a → Leaves texts now a
+    (texts : List ℕ) (now : Standing) (a : Areas) →
+    Some (areas_at texts now) ≡ Some a → Leaves texts now a
 reads_now texts now a told = subst (λ b. Leaves texts now b)
     (ap (λ o. unwrap_or o (areas_at texts now)) told) (
       LeavesText-itself now.first.loose (text_at texts now.first),
@@ -98,7 +99,8 @@ reads_now texts now a told = subst (λ b. Leaves texts now b)
     )
 
 none_left :
-    (texts : List ℕ) (past : List Standing) (c : Areas) → HadLeft texts (drop (length past) past) c → ⊥
+    (texts : List ℕ) (past : List Standing) (c : Areas) →
+    HadLeft texts (drop (length past) past) c → ⊥
 none_left texts [] c had = had
 none_left texts (standing ∷ past) c had = none_left texts past c had
 
@@ -125,7 +127,9 @@ due true = 1
 due false = 0
 
 -- the texts and moments of a vault, and the room for those of 64 writes
-pub record IsKept (texts : List ℕ) (past : List Standing) (now : Standing) (writes texts_room moments_room : ℕ) : Type 0 where
+pub record IsKept
+    (texts : List ℕ) (past : List Standing) (now : Standing) (writes texts_room moments_room : ℕ) :
+    Type 0 where
   pub now_whole : AreTexts texts now
   pub past_whole : All (AreTexts texts) past
   pub texts_fit : length texts ≤ (2 + writes) * 65536

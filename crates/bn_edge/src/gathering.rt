@@ -38,7 +38,8 @@ fn find_word<W: Words>(
     number: usize,
     room: &mut Vec<u8>,
 ) -> Result<Option<Vec<u8>>, NoMemory>
-    ensures { IfOk result (λ word. IfSome (W.words line.now) (λ words. IsFoundIn words number word)) }
+    ensures { IfOk result (λ word.
+        IfSome (W.words line.now) (λ words. IsFoundIn words number word)) }
 {
     for _doubling in 0..DOUBLINGS {
         match line.word(number, room.as_mut_slice()) {

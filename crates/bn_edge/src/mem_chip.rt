@@ -66,7 +66,8 @@ impl Chip for MemChip {
     }
 
     fn set_register(&mut self, value: &[u8; 32]) -> Result<(), ChipFailed>
-        ensures ok { OnOk result (Some self.new.register ≡ replaced (Some self.old.register) value.now) }
+        ensures ok { OnOk result
+            (Some self.new.register ≡ replaced (Some self.old.register) value.now) }
         ensures err { OnErr result
             (IsOldOrNew (Some self.old.register) value.now (Some self.new.register)) }
         ensures failed { CountsRefusals result self.old.faults self.new.faults }

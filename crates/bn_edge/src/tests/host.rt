@@ -1,11 +1,13 @@
+use super::gives;
 use crate::file_desk::read_up_to;
 use crate::{Desk, DeskFault, FileDesk, OutSink, Sink, SinkFailed};
 use std::alloc::{AllocError, Global};
 use std::cell::Cell;
 use std::fmt::Display;
 use std::io::{ErrorKind, Read};
+use std::rt::Files;
 use std::test::Fail;
-use std::{env, fs, io, process};
+use std::{fs, io};
 
 /// More bytes than one read of a file asks for, with a period that no power of two is a multiple
 /// of.
@@ -17,40 +19,47 @@ fn pattern(alloc: Global) -> Result<Vec<u8>, AllocError> {
     Ok(bytes)
 }
 
+/// Writes the pattern to a file, and gives it.
+fn written<R: Files>(rt: &R, alloc: Global, name: &str) -> Result<Vec<u8>, Fail> {
+    let bytes = pattern(alloc)?;
+    fs::write(rt, name, bytes.as_slice())?;
+    Ok(bytes)
+}
+
 #[test]
 fn the_front_of_a_file_or_all_of_it_is_read(rt: HostRuntime) -> Result<(), Fail> {
-    let name = format!(in rt.alloc(); "bn-edge-{}", process::id(rt.process()))?;
-    let path = env::temp_dir(&rt)?.join(rt.alloc(), name.as_str())?;
-    let bytes = pattern(rt.alloc())?;
-    fs::write(&rt, path.as_path(), bytes.as_slice())?;
+    let bytes = written(&rt, rt.alloc(), "edge-front")?;
+    let start = bytes.get(..33_000).unwrap_or(&[]);
     let mut desk = FileDesk::of(&rt);
-    let front = desk.read_front(rt.alloc(), path.as_str(), 33_000);
-    let whole = desk.read_front(rt.alloc(), path.as_str(), 50_000);
-    let inner = path.join(rt.alloc(), "inner")?;
-    let through = desk.read_front(rt.alloc(), inner.as_str(), 1);
-    fs::remove_file(&rt, path.as_path())?;
-    let gone = desk.read_front(rt.alloc(), path.as_str(), 1);
-    assert!(rt; front?.as_slice() == bytes.get(..33_000).unwrap_or(&[]));
-    assert!(rt; whole?.as_slice() == bytes.as_slice());
-    assert_eq!(rt; through.err(), Some(DeskFault::Failed));
-    assert_eq!(rt; gone.err(), Some(DeskFault::Missing));
+    let front = gives(&mut desk, rt.alloc(), "edge-front", 33_000, start);
+    let whole = gives(&mut desk, rt.alloc(), "edge-front", 50_000, &bytes);
+    let _removed = fs::remove_file(&rt, "edge-front");
+    assert!(rt; front);
+    assert!(rt; whole);
+    Ok(())
+}
+
+#[test]
+fn a_missing_file_is_no_fault_of_the_desk(rt: HostRuntime) -> Result<(), Fail> {
+    fs::write(&rt, "edge-file", b"a file")?;
+    let mut desk = FileDesk::of(&rt);
+    let through = desk.read_front(rt.alloc(), "edge-file/inner", 1).err();
+    let _removed = fs::remove_file(&rt, "edge-file");
+    let gone = desk.read_front(rt.alloc(), "edge-file", 1).err();
+    assert!(rt; through == Some(DeskFault::Failed));
+    assert!(rt; gone == Some(DeskFault::Missing));
     Ok(())
 }
 
 #[test]
 fn a_name_is_taken_as_it_is(rt: HostRuntime) -> Result<(), Fail> {
-    let plain = format!(in rt.alloc(); "bn-edge-name-{}", process::id(rt.process()))?;
-    let spaced = format!(in rt.alloc(); "{plain} ")?;
-    let folder = env::temp_dir(&rt)?;
-    let first = folder.join(rt.alloc(), plain.as_str())?;
-    let second = folder.join(rt.alloc(), spaced.as_str())?;
-    fs::write(&rt, first.as_path(), b"plain")?;
-    fs::write(&rt, second.as_path(), b"spaced")?;
+    fs::write(&rt, "edge-name", b"plain")?;
+    fs::write(&rt, "edge-name ", b"spaced")?;
     let mut desk = FileDesk::of(&rt);
-    let answer = desk.read_front(rt.alloc(), second.as_str(), 9);
-    fs::remove_file(&rt, first.as_path())?;
-    fs::remove_file(&rt, second.as_path())?;
-    assert!(rt; answer?.as_slice() == b"spaced".as_slice());
+    let spaced = gives(&mut desk, rt.alloc(), "edge-name ", 9, b"spaced");
+    let _removed = fs::remove_file(&rt, "edge-name");
+    let _removed_too = fs::remove_file(&rt, "edge-name ");
+    assert!(rt; spaced);
     Ok(())
 }
 
@@ -95,18 +104,15 @@ fn short_and_interrupted_reads_go_on(rt: HostRuntime) -> Result<(), Fail> {
 }
 
 #[test]
-fn a_folder_is_a_fault(rt: HostRuntime) -> Result<(), Fail> {
-    let folder = env::temp_dir(&rt)?;
-    let mut desk = FileDesk::of(&rt);
-    let answer = desk.read_front(rt.alloc(), folder.as_str(), 1);
-    assert_eq!(rt; answer.err(), Some(DeskFault::Failed));
-    Ok(())
+fn a_folder_is_a_fault(rt: HostRuntime) {
+    let answer = FileDesk::of(&rt).read_front(rt.alloc(), ".", 1);
+    assert!(rt; answer.err() == Some(DeskFault::Failed));
 }
 
 #[test]
 fn standard_output_takes_a_line(rt: HostRuntime) {
     let mut sink = OutSink::of(&rt);
-    assert_eq!(rt; sink.write(b"out 2 0 41\n"), Ok(11));
+    assert!(rt; sink.write(b"out 2 0 41\n") == Ok(11));
 }
 
 /// A printer that takes so many bytes a call, or fails where that is None. Signals interrupt its
@@ -148,21 +154,25 @@ impl Print for Printer {
     }
 }
 
+/// What a sink answers over such a printer, and how many bytes that took.
+fn answer_of(room: Option<usize>) -> (Result<usize, SinkFailed>, usize) {
+    let printer = Printer {
+        room,
+        taken: Cell::new(0),
+        interrupts: Cell::new(3),
+    };
+    let answer = OutSink::of(&printer).write(b"lines");
+    (answer, printer.taken.get())
+}
+
 #[test]
 fn an_answer_counts_what_standard_output_took(rt: HostRuntime) {
-    for (room, answer, taken) in [
-        (Some(2), Ok(2), 2),
-        (Some(9), Ok(5), 5),
-        (Some(0), Err(SinkFailed), 0),
-        (None, Err(SinkFailed), 0),
+    for (room, want) in [
+        (Some(2), (Ok(2), 2)),
+        (Some(9), (Ok(5), 5)),
+        (Some(0), (Err(SinkFailed), 0)),
+        (None, (Err(SinkFailed), 0)),
     ] {
-        let printer = Printer {
-            room,
-            taken: Cell::new(0),
-            interrupts: Cell::new(3),
-        };
-        let mut sink = OutSink::of(&printer);
-        assert_eq!(rt; sink.write(b"lines"), answer, "at {room:?}");
-        assert_eq!(rt; printer.taken.get(), taken, "at {room:?}");
+        assert!(rt; answer_of(room) == want, "at {room:?}");
     }
 }

@@ -1,3 +1,4 @@
+use super::gives;
 use crate::{Desk, DeskFault, MemDesk, MemSink, Sink, SinkFailed};
 use std::alloc::{AllocError, Global};
 use std::test::Fail;
@@ -23,22 +24,20 @@ fn files(alloc: Global) -> Result<Vec<File>, AllocError> {
 #[test]
 fn a_desk_gives_the_front_of_the_first_file_with_the_name(rt: HostRuntime) -> Result<(), Fail> {
     let mut desk = MemDesk::of(files(rt.alloc())?, Vec::new(rt.alloc()));
-    let cases: [(&str, usize, Result<&[u8], DeskFault>); 6] = [
-        ("a.img", 9, Ok(b"first")),
-        ("a.img", 5, Ok(b"first")),
-        ("a.img", 2, Ok(b"fi")),
-        ("a.img", 0, Ok(b"")),
-        ("b.img", 9, Ok(b"")),
-        ("c.img", 9, Err(DeskFault::Missing)),
-    ];
-    for (name, most, want) in cases {
-        let answer = desk.read_front(rt.alloc(), name, most);
-        let given = answer.as_ref().map(|bytes| bytes.as_slice());
+    for (name, most, want) in [
+        ("a.img", 9, b"first".as_slice()),
+        ("a.img", 5, b"first"),
+        ("a.img", 2, b"fi"),
+        ("a.img", 0, b""),
+        ("b.img", 9, b""),
+    ] {
         assert!(rt;
-            given == want.as_ref().map(|bytes| *bytes),
+            gives(&mut desk, rt.alloc(), name, most, want),
             "at {name} {most}"
         );
     }
+    let answer = desk.read_front(rt.alloc(), "c.img", 9).err();
+    assert!(rt; answer == Some(DeskFault::Missing));
     Ok(())
 }
 
@@ -62,8 +61,8 @@ fn a_sink_takes_what_there_is_room_for(rt: HostRuntime) -> Result<(), Fail> {
         (Ok(3), b"lineslin"),
         (Err(SinkFailed), b"lineslin"),
     ] {
-        assert_eq!(rt; sink.write(b"lines"), want);
-        assert_eq!(rt; sink.bytes(), written);
+        let answer = sink.write(b"lines");
+        assert!(rt; answer == want && sink.bytes() == written, "at {want:?}");
     }
     Ok(())
 }

@@ -1,11 +1,8 @@
 ghost use Rattle.std.specs.Prelude.{◌≡◌, IfOk, length};
 
-use crate::{
-    Area, AreaFault, Chip, ChipFailed, FileChip, FileVault, MemChip, MemVault, Vault, VaultFailed,
-};
+use crate::{Area, AreaFault, Chip, FileChip, FileVault, MemChip, MemVault, Vault};
 use std::alloc::Global;
 use std::fs;
-use std::io::ErrorKind;
 use std::rt::Files;
 use std::test::Fail;
 
@@ -16,51 +13,58 @@ fn vault_of(alloc: Global, fails: &[u64]) -> Result<MemVault, Fail> {
     Ok(vault.ok().ok_or("no memory")?)
 }
 
+/// A read of an area gives these bytes.
+fn holds<V: Vault>(vault: &mut V, alloc: Global, area: Area, want: &[u8]) -> bool {
+    match vault.read_area(alloc, area) {
+        Ok(bytes) => bytes.as_slice() == want,
+        Err(_) => false,
+    }
+}
+
 #[test]
 fn a_vault_gives_what_was_written(rt: HostRuntime) -> Result<(), Fail> {
     let mut vault = vault_of(rt.alloc(), &[])?;
-    let text = b"three".as_slice();
-    for (area, before, after) in [
-        (Area::First, b"one".as_slice(), text),
-        (Area::Second, b"two".as_slice(), text),
-    ] {
-        let read = vault.read_area(rt.alloc(), area);
-        assert!(rt; read.ok().ok_or("a fault")?.as_slice() == before);
-        assert_eq!(rt; vault.write_area(area, text), Ok(()));
-        assert_eq!(rt; vault.sync(), Ok(()));
-        let read = vault.read_area(rt.alloc(), area);
-        assert!(rt; read.ok().ok_or("a fault")?.as_slice() == after);
+    for (area, before) in [(Area::First, b"one".as_slice()), (Area::Second, b"two")] {
+        assert!(rt; holds(&mut vault, rt.alloc(), area, before));
+        assert!(rt; vault.write_area(area, b"three").is_ok());
+        assert!(rt; vault.sync().is_ok());
+        assert!(rt; holds(&mut vault, rt.alloc(), area, b"three"));
     }
     Ok(())
 }
 
 #[test]
-fn a_vault_fails_at_the_listed_calls_and_after_64_writes(rt: HostRuntime) -> Result<(), Fail> {
+fn a_vault_fails_at_the_listed_calls(rt: HostRuntime) -> Result<(), Fail> {
     let mut vault = vault_of(rt.alloc(), &[1, 2, 4])?;
-    let read = vault.read_area(rt.alloc(), Area::First);
-    assert_eq!(rt; read.err(), Some(AreaFault::Failed));
-    assert_eq!(rt; vault.write_area(Area::First, b""), Err(VaultFailed));
-    assert_eq!(rt; vault.sync(), Ok(()));
-    assert_eq!(rt; vault.sync(), Err(VaultFailed));
+    let read = vault.read_area(rt.alloc(), Area::First).err();
+    assert!(rt; read == Some(AreaFault::Failed));
+    assert!(rt; vault.write_area(Area::First, b"").is_err());
+    assert!(rt; vault.sync().is_ok());
+    assert!(rt; vault.sync().is_err());
+    Ok(())
+}
+
+#[test]
+fn a_vault_takes_64_writes(rt: HostRuntime) -> Result<(), Fail> {
+    let mut vault = vault_of(rt.alloc(), &[])?;
     let text = filled(rt.alloc(), 7, 65_536)?;
     for _ in 0..64 {
-        assert_eq!(rt; vault.write_area(Area::First, text.as_slice()), Ok(()));
-        assert_eq!(rt; vault.sync(), Ok(()));
+        assert!(rt; vault.write_area(Area::First, &text).is_ok());
+        assert!(rt; vault.sync().is_ok());
     }
-    assert_eq!(rt; vault.write_area(Area::First, b""), Err(VaultFailed));
-    let read = vault.read_area(rt.alloc(), Area::First);
-    assert!(rt; read.ok().ok_or("a fault")?.as_slice() == text.as_slice());
+    assert!(rt; vault.write_area(Area::First, b"").is_err());
+    assert!(rt; holds(&mut vault, rt.alloc(), Area::First, &text));
     Ok(())
 }
 
 #[test]
 fn a_chip_keeps_its_register_where_a_set_fails(rt: HostRuntime) -> Result<(), Fail> {
-    let mut chip = MemChip::of([1; 32], Vec::from_slice(rt.alloc(), &[2, 5])?);
-    assert_eq!(rt; chip.register(), Ok([1; 32]));
-    assert_eq!(rt; chip.set_register(&[2; 32]), Err(ChipFailed));
-    assert_eq!(rt; chip.set_register(&[3; 32]), Ok(()));
-    assert_eq!(rt; chip.register(), Ok([3; 32]));
-    assert_eq!(rt; chip.register(), Err(ChipFailed));
+    let mut chip = MemChip::of([1; 32], Vec::from_slice(rt.alloc(), &[1, 5])?);
+    assert!(rt; chip.set_register(&[2; 32]).is_err());
+    assert!(rt; chip.register() == Ok([1; 32]));
+    assert!(rt; chip.set_register(&[3; 32]).is_ok());
+    assert!(rt; chip.register() == Ok([3; 32]));
+    assert!(rt; chip.register().is_err());
     Ok(())
 }
 
@@ -71,48 +75,61 @@ fn filled(alloc: Global, byte: u8, count: usize) -> Result<Vec<u8>, Fail>
     Ok(vec![in alloc; byte; count]?)
 }
 
-fn remove<R: Files>(rt: &R, name: &str) -> Result<(), Fail> {
-    match fs::remove_file(rt, name) {
-        Ok(()) => Ok(()),
-        Err(error) if error.kind() == ErrorKind::NotFound => Ok(()),
-        Err(error) => Err(Fail::from(error)),
+/// Takes a file away, where it is.
+fn remove<R: Files>(rt: &R, name: &str) {
+    let _removed = fs::remove_file(rt, name);
+}
+
+/// A file has these bytes.
+fn has<R: Files + Alloc>(rt: &R, name: &str, want: &[u8]) -> bool {
+    match fs::read(rt, name) {
+        Ok(bytes) => bytes.as_slice() == want,
+        Err(_) => false,
     }
 }
 
-fn remove_all<R: Files>(rt: &R) -> Result<(), Fail> {
-    remove(rt, "bastion.a")?;
-    remove(rt, "bastion.b")?;
-    remove(rt, "bastion.reg")
+#[test]
+fn areas_are_files_of_the_folder(rt: HostRuntime) {
+    remove(&rt, "bastion.a");
+    let mut vault = FileVault::of(&rt);
+    assert!(rt; holds(&mut vault, rt.alloc(), Area::First, b""));
+    assert!(rt; vault.write_area(Area::Second, b"two").is_ok());
+    assert!(rt; vault.sync().is_ok());
+    let second = has(&rt, "bastion.b", b"two");
+    remove(&rt, "bastion.b");
+    assert!(rt; second);
 }
 
 #[test]
-fn areas_and_register_are_files_of_the_folder(rt: HostRuntime) -> Result<(), Fail> {
-    remove_all(&rt)?;
-    let mut vault = FileVault::of(&rt);
-    let mut chip = FileChip::of(&rt);
-    let empty = vault.read_area(rt.alloc(), Area::First);
-    let zeros = chip.register();
-    let wrote = vault.write_area(Area::Second, b"two");
-    let synced = vault.sync();
-    let set = chip.set_register(&[5; 32]);
-    let second = fs::read(&rt, "bastion.b")?;
-    let register = chip.register();
+fn the_front_of_a_longer_file_is_an_area(rt: HostRuntime) -> Result<(), Fail> {
     let long = filled(rt.alloc(), 9, 65_537)?;
     fs::write(&rt, "bastion.a", long.as_slice())?;
-    fs::write(&rt, "bastion.reg", [9; 31].as_slice())?;
-    let front = vault.read_area(rt.alloc(), Area::First);
-    let short = chip.register();
-    fs::write(&rt, "bastion.reg", [9; 33].as_slice())?;
-    let longer = chip.register();
-    remove_all(&rt)?;
-    assert!(rt; empty.ok().ok_or("a fault")?.is_empty());
-    assert_eq!(rt;
-        (zeros, wrote, synced, set),
-        (Ok([0; 32]), Ok(()), Ok(()), Ok(()))
-    );
-    assert!(rt; second.as_slice() == b"two".as_slice());
-    assert_eq!(rt; register, Ok([5; 32]));
-    assert_eq!(rt; front.ok().ok_or("a fault")?.len(), 65_536);
-    assert_eq!(rt; (short, longer), (Err(ChipFailed), Err(ChipFailed)));
+    let start = long.get(..65_536).unwrap_or(&[]);
+    let front = holds(&mut FileVault::of(&rt), rt.alloc(), Area::First, start);
+    remove(&rt, "bastion.a");
+    assert!(rt; front);
+    Ok(())
+}
+
+#[test]
+fn the_register_is_a_file_of_the_folder(rt: HostRuntime) {
+    remove(&rt, "bastion.reg");
+    let mut chip = FileChip::of(&rt);
+    assert!(rt; chip.register() == Ok([0; 32]));
+    let set = chip.set_register(&[5; 32]);
+    let register = chip.register();
+    remove(&rt, "bastion.reg");
+    assert!(rt; set.is_ok());
+    assert!(rt; register == Ok([5; 32]));
+}
+
+#[test]
+fn a_register_has_32_bytes(rt: HostRuntime) -> Result<(), Fail> {
+    for bytes in [[9; 31].as_slice(), &[9; 33]] {
+        fs::write(&rt, "bastion.reg", bytes)?;
+        let register = FileChip::of(&rt).register();
+        remove(&rt, "bastion.reg");
+        assert!(rt; register.is_err());
+    }
     Ok(())
 }

@@ -7,7 +7,7 @@ fn words(alloc: Global) -> Result<Vec<Vec<u8>>, AllocError> {
     let mut words = Vec::new(alloc);
     words.push(Vec::from_slice(alloc, b"run")?)?;
     words.push(Vec::from_slice(alloc, b"")?)?;
-    words.push(Vec::from_slice(alloc, &[b'x'; 600])?)?;
+    words.push(vec![in alloc; b'x'; 600]?)?;
     words.push(Vec::from_slice(alloc, &[0xFF, 0xFE])?)?;
     Ok(words)
 }
@@ -34,10 +34,7 @@ fn all_words_are_gathered(rt: HostRuntime) -> Result<(), Fail> {
     let line = MemWords::of(words(rt.alloc())?);
     let given = gather_words(rt.alloc(), &line).ok().ok_or("no memory")?;
     let wanted = words(rt.alloc())?;
-    assert_eq!(rt; given.len(), 4);
-    for (word, want) in given.iter().zip(wanted.iter()) {
-        assert!(rt; word.as_slice() == want.as_slice());
-    }
+    assert!(rt; given.as_slice() == wanted.as_slice());
     Ok(())
 }
 
@@ -73,9 +70,9 @@ impl Env for Process {
 fn the_name_of_the_program_is_no_word(rt: HostRuntime) -> Result<(), Fail> {
     let line = HostWords::of(&Process);
     let mut room = [0; 4];
-    assert_eq!(rt; line.word(0, &mut room[..2]), Err(WordFault::Long));
-    assert_eq!(rt; line.word(0, &mut room), Ok(3));
+    assert!(rt; line.word(0, &mut room[..2]) == Err(WordFault::Long));
+    assert!(rt; line.word(0, &mut room) == Ok(3));
     assert!(rt; room == *b"run\0");
-    assert_eq!(rt; line.word(1, &mut room), Err(WordFault::Past));
+    assert!(rt; line.word(1, &mut room) == Err(WordFault::Past));
     Ok(())
 }
