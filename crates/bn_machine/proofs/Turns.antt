@@ -7,17 +7,17 @@ use Rattle.bn_types.specs.declared.kind.Kind.TheVariants as kind
 use Rattle.bn_types.specs.declared.row.Row.{Row}
 use Rattle.bn_types.specs.declared.width.Width.TheVariants.{B4}
 use Rattle.bn_model.specs.Accessing.{access, answer_of_load}
-use Rattle.bn_model.specs.Deciding.{asked_of, asked_of_denial, asked_of_fault, asked_of_fetch}
+use Rattle.bn_model.specs.Deciding.{asked_of, asked_of_denial, asked_of_fetch}
 use Rattle.bn_model.specs.Deciding.{asked_of_insn, asked_of_interrupt, decision_of}
 use Rattle.bn_model.specs.Deciding.{decision_of_fault, decision_of_hart}
-use Rattle.bn_model.specs.Decision.{Asked, Decision, Unfetched}
+use Rattle.bn_model.specs.Decision.{Asked, Unfetched}
 use Rattle.bn_model.specs.Decoding.{insn_of}
 use Rattle.bn_model.specs.Spelling.{text_of}
 use Rattle.bn_model.specs.State.{Hart, State, asker, hart_at, memory}
 use Rattle.bn_model.specs.Stepping.{after_turn, is_built_turn, lines_of_turn}
 use Rattle.bn_model.specs.Switching.{stopped_at}
 use Rattle.bn_machine.specs.declared.unbuilt.Unbuilt.{Unbuilt}
-use Rattle.bn_machine.specs.Making.{IsMade, IsTurn, Makes, MakesAsked, MakesTurn}
+use Rattle.bn_machine.specs.Making.{IsMade, MakesAsked, MakesTurn}
 use Rattle.bn_machine.specs.Outside.{hart_outside}
 
 -- the answer of hart h's fetch

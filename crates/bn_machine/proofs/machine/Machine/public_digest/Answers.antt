@@ -1,7 +1,6 @@
 use Rattle.std.proofs.Common.{refl, sym, ap, ◌∙◌}
 use Rattle.std.specs.List.{concat}
 use Rattle.sha2.specs.Sha256.{sha256}
-use Rattle.bn_types.specs.declared.digest.Digest.{Digest}
 use Rattle.bn_model.specs.Nesting.{Nested, contents}
 use Rattle.bn_model.proofs.VisiblePages.{public_digest-unowned}
 use Rattle.bn_machine.proofs.machine.Machine.public_digest.Goals as goal
