@@ -1,24 +1,28 @@
 -- Laws of runs.
-use Rattle.std.proofs.Common.{◌≡◌, ℕ, suc, zero, ◌+◌, ◌-◌, ◌<◌, Bool, true, false, List, [], ◌∷◌, ◌++◌, Option, None, refl, ap, ◌∙◌, sym, arith}
+use Rattle.std.proofs.Common.{◌≡◌, ℕ, suc, zero, ◌+◌, ◌-◌, ◌<◌, Bool, true, false, List, [], ◌∷◌}
+use Rattle.std.proofs.Common.{◌++◌, Option, None, refl, ap, ◌∙◌, sym, arith}
 use Rattle.std.proofs.lemmas.List.{append_assoc}
 use Rattle.bn_types.specs.declared.ending.Ending.TheVariants.{Shutdown, Limit, Unbuilt}
 use Rattle.bn_types.specs.declared.event.Event.{Event}
 use Rattle.bn_types.specs.declared.event.Event.TheVariants.{Turn}
 use Rattle.bn_types.specs.declared.line.Line.{Line}
-use Rattle.bn_model.specs.Running.{Blind, Course, Run, course, onward, run, state_before, turns, unless_off}
+use Rattle.bn_model.specs.Running.{Blind, Course, Run, course, onward, run, state_before, turns}
+use Rattle.bn_model.specs.Running.{unless_off}
 use Rattle.bn_model.specs.State.{State}
 use Rattle.bn_model.specs.Stepping.{step, lines, is_built_event}
 
 -- ---- a course
 
 -- a state that is off makes no events
-pub course_off : (s : State) (es : List Event) → s.off ≡ true → course None s es ≡ record { told = []; ending = Shutdown; last = s }
+pub course_off : (s : State) (es : List Event) → s.off ≡ true
+    → course None s es ≡ record { told = []; ending = Shutdown; last = s }
 unfolding course
 course_off s [] e = rw e refl
 course_off s (event ∷ es) e = rw e refl
 
 -- no events
-pub course_none : (s : State) → s.off ≡ false → course None s [] ≡ record { told = []; ending = Limit; last = s }
+pub course_none : (s : State) → s.off ≡ false
+    → course None s [] ≡ record { told = []; ending = Limit; last = s }
 unfolding course
 course_none s e = rw e refl
 
@@ -26,17 +30,20 @@ course_none s e = rw e refl
 abbrev made_if : State → Event → List Event → Bool → Course
 made_if s e es built = onward built s (lines s e) (course None (step s e) es)
 
-unless_on : (s : State) (e : Event) (es : List Event) → s.off ≡ false → course None s (e ∷ es) ≡ made_if s e es (is_built_event s e)
+unless_on : (s : State) (e : Event) (es : List Event) → s.off ≡ false
+    → course None s (e ∷ es) ≡ made_if s e es (is_built_event s e)
 unfolding course
 unless_on s e es on = ap (λ off. unless_off off s (made_if s e es (is_built_event s e))) on
 
 -- an event that isn't built ends the run before it
-pub course_unbuilt : (s : State) (e : Event) (es : List Event) → s.off ≡ false → is_built_event s e ≡ false
+pub course_unbuilt : (s : State) (e : Event) (es : List Event) → s.off ≡ false
+    → is_built_event s e ≡ false
     → course None s (e ∷ es) ≡ record { told = []; ending = Unbuilt; last = s }
 course_unbuilt s e es on built = unless_on s e es on ∙ ap (made_if s e es) built
 
 -- a built event, and the run of the others
-pub course_built : (s : State) (e : Event) (es : List Event) → s.off ≡ false → is_built_event s e ≡ true
+pub course_built : (s : State) (e : Event) (es : List Event) → s.off ≡ false
+    → is_built_event s e ≡ true
     → course None s (e ∷ es)
     ≡ (let rest = course None (step s e) es in record rest { told = lines s e ++ rest.told })
 course_built s e es on built = unless_on s e es on ∙ ap (made_if s e es) built
@@ -50,13 +57,15 @@ onto told rest = record rest { told = told ++ rest.told }
 abbrev pub run_on : Option Blind → Run → List Event → Run
 run_on blind first es = onto first.told (run blind first.last es)
 
-pub run-append : (blind : Option Blind) (s : State) (es fs : List Event) → run blind s (es ++ fs) ≡ run_on blind (run blind s es) fs
+pub run-append : (blind : Option Blind) (s : State) (es fs : List Event)
+    → run blind s (es ++ fs) ≡ run_on blind (run blind s es) fs
 unfolding run
 run-append blind s [] fs = refl
 run-append blind s (e ∷ es) fs =
     let before = state_before blind s in
     ap (onto (lines before e)) (run-append blind (step before e) es fs)
-    ∙ ap (λ (told : List Line). record { told = told; last = (run blind (run blind (step before e) es).last fs).last })
+    ∙ ap (λ (told : List Line).
+    record { told = told; last = (run blind (run blind (step before e) es).last fs).last })
     (sym (append_assoc (lines before e) (run blind (step before e) es).told _))
 
 -- ---- turns of hart 0
@@ -72,6 +81,7 @@ pub turns-more : (n : ℕ) → turns (n + 1) ≡ turns n ++ Turn 0 ∷ []
 unfolding turns
 turns-more n = turns-plus n zero
 
-pub turns-split : (made limit : ℕ) → made < limit → turns limit ≡ turns made ++ Turn 0 ∷ turns (limit - (made + 1))
+pub turns-split : (made limit : ℕ) → made < limit
+    → turns limit ≡ turns made ++ Turn 0 ∷ turns (limit - (made + 1))
 turns-split made limit below = let split : limit ≡ made + suc (limit - (made + 1)) = omega arith in
     ap turns split ∙ turns-plus made (limit - (made + 1))
