@@ -1,7 +1,7 @@
 -- The story of a call, from what the desk answered.
 use Rattle.std.proofs.Common.{◌≡◌, ◌≢◌, ℕ, ◌+◌, ◌*◌, ◌<◌, ◌≤◌, ◌⊎◌, inl, inr, true, nat_lt, List}
 use Rattle.std.proofs.Common.{length, take, Option, Some, None, Ok, Err, refl, sym, ap, subst, ◌∙◌}
-use Rattle.std.proofs.Common.{arith, Vec, vec_len, IsSomeAnd}
+use Rattle.std.proofs.Common.{arith, Vec, IsSomeAnd}
 use Rattle.std.proofs.lemmas.List.{length-take-le, take_all}
 use Rattle.std.proofs.lemmas.Bool.{cases_lt, lt-ltb}
 use Rattle.std.specs.declared.alloc.Global.{Global}

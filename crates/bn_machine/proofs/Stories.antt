@@ -7,7 +7,7 @@ use Rattle.bn_types.specs.declared.ending.Ending.TheVariants as ending
 use Rattle.bn_types.specs.declared.status.Status.{Status}
 use Rattle.bn_types.specs.declared.status.Status.TheVariants as answer
 use Rattle.bn_edge.specs.Accounts.{SinkAccount}
-use Rattle.bn_edge.specs.Counts.{CanCount, IsToldBy, Rises, Rose, Stays}
+use Rattle.bn_edge.specs.Counts.{IsToldBy, Rises, Stays}
 use Rattle.bn_edge.specs.Written.{Writes, WritesFront, appended}
 use Rattle.bn_model.specs.Loading.{Load, Ram, Faulty, Unbuilt, load_of}
 use Rattle.bn_model.specs.Reporting.{Files, Report, closing, most_image_bytes, report_of}

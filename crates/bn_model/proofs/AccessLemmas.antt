@@ -1,5 +1,6 @@
 -- Laws of accesses to memory: what they depend on, and how they come out.
-use Rattle.std.proofs.Common.{◌≡◌, ℕ, ◌%◌, ◌<◌, Bool, true, false, nat_lt, List, length, Option, Some, None, Result, Ok, Err, refl, ap, ◌∙◌, ltb-true}
+use Rattle.std.proofs.Common.{◌≡◌, ℕ, ◌%◌, ◌<◌, Bool, true, false, nat_lt, List, length, Option}
+use Rattle.std.proofs.Common.{Some, None, Result, Ok, Err, refl, ap, ◌∙◌, ltb-true}
 use Rattle.bn_types.specs.declared.asker.Asker.{Asker}
 use Rattle.bn_types.specs.declared.cause.Cause.{Cause}
 use Rattle.bn_types.specs.declared.fault.Fault.{Fault}
@@ -7,7 +8,8 @@ use Rattle.bn_types.specs.declared.kind.Kind.{Kind}
 use Rattle.bn_types.specs.declared.width.Width.{Width}
 use Rattle.bn_model.specs.declared.owner.Owner.{Owner}
 use Rattle.bn_model.specs.declared.place.Place.{Place}
-use Rattle.bn_model.specs.Accessing.{access, is_aligned, place_by_walk, place_if_admitted, place_if_aligned, place_if_in_ram, place_on, walk_by}
+use Rattle.bn_model.specs.Accessing.{access, is_aligned, place_by_walk, place_if_admitted}
+use Rattle.bn_model.specs.Accessing.{place_if_aligned, place_if_in_ram, place_on, walk_by}
 use Rattle.bn_model.specs.Admission.{admits}
 use Rattle.bn_model.specs.Memory.{Memory, visible}
 use Rattle.bn_model.specs.Walking.{Landing, guest_page, vpn_of, walk_of}

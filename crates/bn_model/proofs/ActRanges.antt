@@ -1,5 +1,7 @@
 -- The numbers that an instruction asks for have 64 bits.
-use Rattle.std.proofs.Common.{◌≡◌, ℕ, zero, suc, ◌+◌, ◌-◌, ◌*◌, ◌/◌, ◌%◌, ◌^◌, ◌<◌, ◌≤◌, ◌==◌, Bool, true, false, not, nat_lt, get_or, List, refl, sym, ap, ◌∙◌, arith, ◌-ℤ◌, cond}
+use Rattle.std.proofs.Common.{◌≡◌, ℕ, zero, suc, ◌+◌, ◌-◌, ◌*◌, ◌/◌, ◌%◌, ◌^◌, ◌<◌, ◌≤◌, ◌==◌, Bool}
+use Rattle.std.proofs.Common.{true, false, not, nat_lt, get_or, List, refl, sym, ap, ◌∙◌, arith}
+use Rattle.std.proofs.Common.{◌-ℤ◌, cond}
 use Rattle.std.proofs.lemmas.Int.{ints}
 use Rattle.std.proofs.lemmas.Nat.{and_le_r, mod_below, or_lt, shr_le, xor_lt}
 use Rattle.std.specs.Int.{cast_signed, cast_unsigned, from_bool, int_shr, w8, w16, w32, w64}
@@ -14,7 +16,10 @@ use Rattle.bn_types.specs.declared.csr_from.CsrFrom.TheVariants.{Register, Numbe
 use Rattle.bn_types.specs.declared.imm_op.ImmOp.{ImmOp}
 use Rattle.bn_types.specs.declared.imm_op.ImmOp.TheVariants as imm_op
 use Rattle.bn_types.specs.declared.insn.Insn.{Insn}
-use Rattle.bn_types.specs.declared.insn.Insn.TheVariants.{Lui, Auipc, Jal, Jalr, Branch, Load, Store, Imm, Shift, Reg2, AddiW, ShiftW, Reg2W, Fence, Csr, Ecall, Ebreak, Sret, Wfi, SfenceVma, Bastion}
+use Rattle.bn_types.specs.declared.insn.Insn.TheVariants.{Lui, Auipc, Jal, Jalr, Branch, Load}
+use Rattle.bn_types.specs.declared.insn.Insn.TheVariants.{Store, Imm, Shift, Reg2, AddiW, ShiftW}
+use Rattle.bn_types.specs.declared.insn.Insn.TheVariants.{Reg2W, Fence, Csr, Ecall, Ebreak, Sret}
+use Rattle.bn_types.specs.declared.insn.Insn.TheVariants.{Wfi, SfenceVma, Bastion}
 use Rattle.bn_types.specs.declared.op.Op.{Op}
 use Rattle.bn_types.specs.declared.op.Op.TheVariants as op
 use Rattle.bn_types.specs.declared.reg.Reg.{Reg}
@@ -25,7 +30,10 @@ use Rattle.bn_types.specs.declared.width.Width.{Width}
 use Rattle.bn_types.specs.declared.width.Width.TheVariants.{B1, B2, B4, B8}
 use Rattle.bn_types.specs.declared.word_op.WordOp.{WordOp}
 use Rattle.bn_types.specs.declared.word_op.WordOp.TheVariants as word_op
-use Rattle.bn_model.specs.Acting.{act_of, branch_if, difference_64, holds, immediate_value, jump, jump_if, load_value, operand, plus_immediate, register, register_value, shift_value, sum_64, without_bit_0, word_shift_value, word_value}
+use Rattle.bn_model.specs.Acting.{act_of, branch_if, difference_64, holds, immediate_value, jump}
+use Rattle.bn_model.specs.Acting.{jump_if, load_value, operand, plus_immediate, register}
+use Rattle.bn_model.specs.Acting.{register_value, shift_value, sum_64, without_bit_0}
+use Rattle.bn_model.specs.Acting.{word_shift_value, word_value}
 use Rattle.bn_model.specs.InsnRanges.{FitsBits, IsInRange, IsOperand}
 use Rattle.bn_model.specs.Soundness.{AreRegisters}
 use Rattle.bn_model.specs.TwosComplement.{in_64_bits, sign_extension, signed_of}
@@ -54,7 +62,8 @@ small-pick true k n small = small-negative k
 small-pick false k n small = small
 
 -- a number of so many bits, as a signed one
-small-two : (b : Bool) (n k : ℕ) → n < 2 ^ 64 → in_64_bits (cond b (pos n) (pos n -ℤ pos (suc k))) < 2 ^ 64
+small-two : (b : Bool) (n k : ℕ) → n < 2 ^ 64
+    → in_64_bits (cond b (pos n) (pos n -ℤ pos (suc k))) < 2 ^ 64
 small-two true n k small = small
 small-two false n k small = small-pick (nat_lt n (suc k)) (suc k - suc n) (n - suc k) (omega arith)
 
@@ -65,10 +74,13 @@ small-low-32 : (n : ℕ) → sign_extension 32 n < 2 ^ 64
 small-low-32 n = small-two (nat_lt (n % 2 ^ 32) (2 ^ 31)) (n % 2 ^ 32) (2 ^ 32 - 1) (omega arith)
 
 small-extended : (width : Width) (signed : Bool) (n : ℕ) → load_value width signed n < 2 ^ 64
-small-extended B1 true n = small-two (nat_lt (n % 2 ^ 8) (2 ^ 7)) (n % 2 ^ 8) (2 ^ 8 - 1) (omega arith)
-small-extended B2 true n = small-two (nat_lt (n % 2 ^ 16) (2 ^ 15)) (n % 2 ^ 16) (2 ^ 16 - 1) (omega arith)
+small-extended B1 true n =
+    small-two (nat_lt (n % 2 ^ 8) (2 ^ 7)) (n % 2 ^ 8) (2 ^ 8 - 1) (omega arith)
+small-extended B2 true n =
+    small-two (nat_lt (n % 2 ^ 16) (2 ^ 15)) (n % 2 ^ 16) (2 ^ 16 - 1) (omega arith)
 small-extended B4 true n = small-low-32 n
-small-extended B8 true n = small-two (nat_lt (n % 2 ^ 64) (2 ^ 63)) (n % 2 ^ 64) (2 ^ 64 - 1) (omega arith)
+small-extended B8 true n =
+    small-two (nat_lt (n % 2 ^ 64) (2 ^ 63)) (n % 2 ^ 64) (2 ^ 64 - 1) (omega arith)
 small-extended B1 false n = omega arith
 small-extended B2 false n = omega arith
 small-extended B4 false n = omega arith
@@ -134,42 +146,58 @@ HasSmallNumbers (act.Csr o number operand reads writes rd) = operand < 2 ^ 64
 HasSmallNumbers (act.Trap cause value) = (cause.0 < 2 ^ 64) × (value < 2 ^ 64)
 HasSmallNumbers other = Unit {0}
 
-jump-small : (b : Bool) (target : ℕ) (rd : Reg) (link : ℕ) → target < 2 ^ 64 → link < 2 ^ 64 → HasSmallNumbers (jump_if b target rd link)
+jump-small : (b : Bool) (target : ℕ) (rd : Reg) (link : ℕ) → target < 2 ^ 64 → link < 2 ^ 64
+    → HasSmallNumbers (jump_if b target rd link)
 unfolding HasSmallNumbers
 jump-small true target rd link f g = (f, g)
 jump-small false target rd link f g = (omega arith, f)
 
-branch-small : (b : Bool) (target pc : ℕ) → target < 2 ^ 64 → HasSmallNumbers (branch_if b target pc)
+branch-small : (b : Bool) (target pc : ℕ) → target < 2 ^ 64
+    → HasSmallNumbers (branch_if b target pc)
 unfolding HasSmallNumbers
-branch-small true target pc f = jump-small (target % 4 == 0) target (record { 0 = 0 }) (sum_64 pc 4) f (sum-small pc 4)
+branch-small true target pc f =
+    jump-small (target % 4 == 0) target (record { 0 = 0 }) (sum_64 pc 4) f (sum-small pc 4)
 branch-small false target pc f = tt
 
-operand-small : (from : CsrFrom) (regs : Regs) → AreRegisters regs → IsOperand from → operand from regs < 2 ^ 64
+operand-small : (from : CsrFrom) (regs : Regs) → AreRegisters regs → IsOperand from
+    → operand from regs < 2 ^ 64
 operand-small (Register r) regs a range = any-register regs a r.0
 operand-small (Number n) regs a range = omega (arith, range)
 
-pub insn-small : (i : Insn) (regs : Regs) (pc : ℕ) → IsInRange i → AreRegisters regs → HasSmallNumbers (act_of i regs pc)
+pub insn-small : (i : Insn) (regs : Regs) (pc : ℕ) → IsInRange i → AreRegisters regs
+    → HasSmallNumbers (act_of i regs pc)
 unfolding HasSmallNumbers act_of
 insn-small (Lui rd imm) regs pc range a = small-imm (2 ^ 31) (omega arith) imm range.1.1
 insn-small (Auipc rd imm) regs pc range a = sum-small pc (in_64_bits imm)
 insn-small (Jal rd offset) regs pc range a =
-    jump-small (plus_immediate pc offset % 4 == 0) (plus_immediate pc offset) rd (sum_64 pc 4) (sum-small pc (in_64_bits offset)) (sum-small pc 4)
+    jump-small (plus_immediate pc offset % 4 == 0) (plus_immediate pc offset) rd (sum_64 pc 4)
+    (sum-small pc (in_64_bits offset)) (sum-small pc 4)
 insn-small (Jalr rd base offset) regs pc range a =
     let sum : ℕ = plus_immediate (register regs base) offset in
     let small : sum < 2 ^ 64 = sum-small (register regs base) (in_64_bits offset) in
-    jump-small (without_bit_0 sum % 4 == 0) (without_bit_0 sum) rd (sum_64 pc 4) (omega arith) (sum-small pc 4)
+    jump-small (without_bit_0 sum % 4 == 0) (without_bit_0 sum) rd (sum_64 pc 4) (omega arith)
+    (sum-small pc 4)
 insn-small (Branch test left right offset) regs pc range a =
-    branch-small (holds test (register regs left) (register regs right)) (plus_immediate pc offset) pc (sum-small pc (in_64_bits offset))
-insn-small (Load width signed rd base offset) regs pc range a = sum-small (register regs base) (in_64_bits offset)
-insn-small (Store width base value offset) regs pc range a = sum-small (register regs base) (in_64_bits offset)
+    branch-small (holds test (register regs left) (register regs right)) (plus_immediate pc offset)
+    pc (sum-small pc (in_64_bits offset))
+insn-small (Load width signed rd base offset) regs pc range a =
+    sum-small (register regs base) (in_64_bits offset)
+insn-small (Store width base value offset) regs pc range a =
+    sum-small (register regs base) (in_64_bits offset)
 insn-small (Imm o rd left imm) regs pc range a =
-    immediate-small o (register regs left) (in_64_bits imm) (any-register regs a left.0) (small-imm (2 ^ 11) (omega arith) imm range.2.1)
-insn-small (Shift o rd left amount) regs pc range a = shifted-small o (register regs left) amount (any-register regs a left.0)
+    immediate-small o (register regs left) (in_64_bits imm) (any-register regs a left.0)
+    (small-imm (2 ^ 11) (omega arith) imm range.2.1)
+insn-small (Shift o rd left amount) regs pc range a =
+    shifted-small o (register regs left) amount (any-register regs a left.0)
 insn-small (Reg2 o rd left right) regs pc range a =
-    register-value-small o (register regs left) (register regs right) (any-register regs a left.0) (any-register regs a right.0)
-insn-small (AddiW rd left imm) regs pc range a = small-low-32 (plus_immediate (register regs left) imm)
-insn-small (ShiftW o rd left amount) regs pc range a = word-shifted-small o (register regs left) amount
-insn-small (Reg2W o rd left right) regs pc range a = word-small o (register regs left) (register regs right)
+    register-value-small o (register regs left) (register regs right) (any-register regs a left.0)
+    (any-register regs a right.0)
+insn-small (AddiW rd left imm) regs pc range a =
+    small-low-32 (plus_immediate (register regs left) imm)
+insn-small (ShiftW o rd left amount) regs pc range a =
+    word-shifted-small o (register regs left) amount
+insn-small (Reg2W o rd left right) regs pc range a =
+    word-small o (register regs left) (register regs right)
 insn-small (Csr o number from rd) regs pc range a = operand-small from regs a range.1
 insn-small (Fence high rs1 rd) regs pc range a = tt
 insn-small Ecall regs pc range a = tt

@@ -1,5 +1,6 @@
 -- What a turn comes to doesn't depend on the secrets of a module that doesn't run in it.
-use Rattle.std.proofs.Common.{◌≡◌, ℕ, zero, suc, Bool, true, false, List, [], ◌∷◌, length, map, find, Option, Some, None, option_map, Result, Ok, Err, refl, ap, ◌∙◌}
+use Rattle.std.proofs.Common.{◌≡◌, ℕ, zero, suc, Bool, true, false, List, [], ◌∷◌, length, map}
+use Rattle.std.proofs.Common.{find, Option, Some, None, option_map, Result, Ok, Err, refl, ap, ◌∙◌}
 use Rattle.bn_types.specs.declared.act.Act.{Act}
 use Rattle.bn_types.specs.declared.act.Act.TheVariants as act
 use Rattle.bn_types.specs.declared.cause.Cause.{Cause}
@@ -16,21 +17,31 @@ use Rattle.bn_model.specs.declared.owner.Owner.{Owner}
 use Rattle.bn_model.specs.Accessing.{access, answer_of_load}
 use Rattle.bn_model.specs.Admission.{declaration}
 use Rattle.bn_model.specs.Blanking.{blank_row, blanked}
-use Rattle.bn_model.specs.Deciding.{asked_if_started, asked_of, asked_of_denial, asked_of_fault, asked_of_fetch, asked_of_interrupt, asked_of_stopped, caller_of, decision_of_act, decision_of_asked, decision_of_call, decision_of_ecall, decision_of_evict, decision_of_hart, decision_of_launch, decision_of_load, decision_of_return, decision_of_secure, decision_of_set, decision_of_store, enclave_at, identity_of, identity_word, offerer_of}
-use Rattle.bn_model.specs.Decision.{Acting, Asked, Decision, Interrupted, Nothing, Resuming, Return, Tell, Unfetched, Unknown}
+use Rattle.bn_model.specs.Deciding.{asked_if_started, asked_of, asked_of_denial, asked_of_fault}
+use Rattle.bn_model.specs.Deciding.{asked_of_fetch, asked_of_interrupt, asked_of_stopped, caller_of}
+use Rattle.bn_model.specs.Deciding.{decision_of_act, decision_of_asked, decision_of_call}
+use Rattle.bn_model.specs.Deciding.{decision_of_ecall, decision_of_evict, decision_of_hart}
+use Rattle.bn_model.specs.Deciding.{decision_of_launch, decision_of_load, decision_of_return}
+use Rattle.bn_model.specs.Deciding.{decision_of_secure, decision_of_set, decision_of_store}
+use Rattle.bn_model.specs.Deciding.{enclave_at, identity_of, identity_word, offerer_of}
+use Rattle.bn_model.specs.Decision.{Acting, Asked, Decision, Interrupted, Nothing, Resuming, Return}
+use Rattle.bn_model.specs.Decision.{Tell, Unfetched, Unknown}
 use Rattle.bn_model.specs.Evicting.{chain, chain_from, evicted_rows, is_other, rows_without}
 use Rattle.bn_model.specs.Interrupts.{interrupt_of}
 use Rattle.bn_model.specs.Launching.{judgement}
 use Rattle.bn_model.specs.Legality.{inside_only, kernel_only, outside_only}
 use Rattle.bn_model.specs.Memory.{visible}
 use Rattle.bn_model.specs.Records.{get_word, set_refusal}
-use Rattle.bn_model.specs.Rows.{Enclave, back_of, change_at, change_if, enclaves, has_id, owners, row_of, saved_of, with_row}
+use Rattle.bn_model.specs.Rows.{Enclave, back_of, change_at, change_if, enclaves, has_id, owners}
+use Rattle.bn_model.specs.Rows.{row_of, saved_of, with_row}
 use Rattle.bn_model.specs.State.{Hart, State, asker, memory, value_of}
 use Rattle.bn_model.specs.Switching.{frame_of_caller, id_of_row, is_stopped_at, stopped_at}
 use Rattle.bn_model.specs.Walking.{vpn_of}
-use Rattle.bn_model.proofs.BlankPages.{access-blanked, keeps-blank, load-blanked, owners-blanked, visible-blanked}
+use Rattle.bn_model.proofs.BlankPages.{access-blanked, keeps-blank, load-blanked, owners-blanked}
+use Rattle.bn_model.proofs.BlankPages.{visible-blanked}
 use Rattle.bn_model.proofs.ClaimLemmas.{ArePrivate}
-use Rattle.bn_model.proofs.RowLemmas.{enclaves-with_row, length-with_row, row_of-with_row, seen-same}
+use Rattle.bn_model.proofs.RowLemmas.{enclaves-with_row, length-with_row, row_of-with_row}
+use Rattle.bn_model.proofs.RowLemmas.{seen-same}
 use Rattle.bn_model.proofs.TestLemmas.{filter-map, find-map}
 
 enclaves-blanked : (m : ℕ) (s : State) → enclaves (blanked m s).rows ≡ enclaves s.rows

@@ -1,11 +1,13 @@
 -- Events from the state without the secrets of a resting module.
-use Rattle.std.proofs.Common.{◌≡◌, ℕ, zero, ◌<◌, ◌&&◌, Bool, true, false, List, [], ◌∷◌, length, Option, refl, sym, ap, ap₂, subst, ◌∙◌, arith}
+use Rattle.std.proofs.Common.{◌≡◌, ℕ, zero, ◌<◌, ◌&&◌, Bool, true, false, List, [], ◌∷◌, length}
+use Rattle.std.proofs.Common.{Option, refl, sym, ap, ap₂, subst, ◌∙◌, arith}
 use Rattle.std.proofs.lemmas.Bool.{both_ways, false_from_ne_true}
 use Rattle.bn_types.specs.declared.event.Event.{Event}
 use Rattle.bn_types.specs.declared.event.Event.TheVariants.{Turn, Key, Poke, Peek}
 use Rattle.bn_types.specs.declared.row.Row.{Row}
 use Rattle.bn_model.specs.declared.owner.Owner.{Owner}
-use Rattle.bn_model.specs.Blanking.{blank, blank_if, blank_page, blank_pages, blank_row, blanked, rests}
+use Rattle.bn_model.specs.Blanking.{blank, blank_if, blank_page, blank_pages, blank_row, blanked}
+use Rattle.bn_model.specs.Blanking.{rests}
 use Rattle.bn_model.specs.BlankingLaws.{RestsIn}
 use Rattle.bn_model.specs.Deciding.{decision_of, decision_of_hart}
 use Rattle.bn_model.specs.Decision.{Decision}
@@ -14,9 +16,11 @@ use Rattle.bn_model.specs.Owners.{is_live, is_private_page}
 use Rattle.bn_model.specs.Rows.{owners}
 use Rattle.bn_model.specs.Soundness.{IsSound}
 use Rattle.bn_model.specs.State.{State, hart_at}
-use Rattle.bn_model.specs.Stepping.{Fits, after_tick, after_turn, lines, lines_of_turn, peek_line, poke_line, step}
+use Rattle.bn_model.specs.Stepping.{Fits, after_tick, after_turn, lines, lines_of_turn, peek_line}
+use Rattle.bn_model.specs.Stepping.{poke_line, step}
 use Rattle.bn_model.proofs.BlankDecisions.{decision-blanked}
-use Rattle.bn_model.proofs.BlankSteps.{StoresElsewhere, poke-blanked, rests-apart, seen_page-blanked, starts-others, turn-blanked}
+use Rattle.bn_model.proofs.BlankSteps.{StoresElsewhere, poke-blanked, rests-apart}
+use Rattle.bn_model.proofs.BlankSteps.{seen_page-blanked, starts-others, turn-blanked}
 use Rattle.bn_model.proofs.BlankStores.{stores-elsewhere}
 use Rattle.bn_model.proofs.ClaimLemmas.{live-private}
 use Rattle.bn_model.proofs.EachLemmas.{each-kept}

@@ -1,5 +1,6 @@
 -- What blanking leaves of memory: what the untrusted world sees, and what other modules reach.
-use Rattle.std.proofs.Common.{◌≡◌, ℕ, ◌%◌, Bool, true, false, List, [], length, set, Result, Ok, refl, sym, ap, ◌∙◌}
+use Rattle.std.proofs.Common.{◌≡◌, ℕ, ◌%◌, Bool, true, false, List, [], length, set, Result, Ok}
+use Rattle.std.proofs.Common.{refl, sym, ap, ◌∙◌}
 use Rattle.bn_types.specs.Numbers.{number_at, page_at, with_number}
 use Rattle.bn_types.specs.declared.asker.Asker.{Asker}
 use Rattle.bn_types.specs.declared.fault.Fault.{Fault}

@@ -1,5 +1,7 @@
 -- A turn in which a module doesn't run, from the state without its secrets.
-use Rattle.std.proofs.Common.{◌≡◌, ℕ, zero, suc, ◌+◌, ◌<◌, ◌&&◌, Bool, true, false, not, List, [], ◌∷◌, ◌++◌, length, map, get_or, set, slice_get, Option, Some, None, option_map, refl, sym, ap, ap₂, subst, ◌∙◌, eq-eqb, ne_eqb}
+use Rattle.std.proofs.Common.{◌≡◌, ℕ, zero, suc, ◌+◌, ◌<◌, ◌&&◌, Bool, true, false, not, List, []}
+use Rattle.std.proofs.Common.{◌∷◌, ◌++◌, length, map, get_or, set, slice_get, Option, Some, None}
+use Rattle.std.proofs.Common.{option_map, refl, sym, ap, ap₂, subst, ◌∙◌, eq-eqb, ne_eqb}
 use Rattle.std.proofs.lemmas.Bool.{both_ways, false_from_ne_true, not-true}
 use Rattle.std.proofs.lemmas.List.{get_or-set_same, length-set, map-append}
 use Rattle.std.proofs.lemmas.List.Folds.{list_any_at}
@@ -16,21 +18,33 @@ use Rattle.bn_types.specs.declared.saved_frame.SavedFrame.{SavedFrame}
 use Rattle.bn_types.specs.declared.width.Width.TheVariants.{B1}
 use Rattle.bn_model.specs.declared.owner.Owner.{Owner}
 use Rattle.bn_model.specs.Blanking.{blank_page, blank_pages, blank_row, blanked, rests, runs}
-use Rattle.bn_model.specs.Decision.{Decision, Rest, Trap, Deny, Next, Set, Jump, Store, Csr, ReturnFromTrap, Put, Answer, ShutDown, SetTimer, TakeKey, NoKey, Start, Send, Refuse, Launch, Call, Return, Resume, Evict, Tell, SetWord}
+use Rattle.bn_model.specs.Decision.{Decision, Rest, Trap, Deny, Next, Set, Jump, Store, Csr}
+use Rattle.bn_model.specs.Decision.{ReturnFromTrap, Put, Answer, ShutDown, SetTimer, TakeKey, NoKey}
+use Rattle.bn_model.specs.Decision.{Start, Send, Refuse, Launch, Call, Return, Resume, Evict, Tell}
+use Rattle.bn_model.specs.Decision.{SetWord}
 use Rattle.bn_model.specs.Each.{each}
-use Rattle.bn_model.specs.Evicting.{evicted_rows, is_among, is_given_up, page_left, pages_left, rows_left, stays, zeros_if}
+use Rattle.bn_model.specs.Evicting.{evicted_rows, is_among, is_given_up, page_left, pages_left}
+use Rattle.bn_model.specs.Evicting.{rows_left, stays, zeros_if}
 use Rattle.bn_model.specs.Memory.{readable_if, readable_page, visible}
 use Rattle.bn_model.specs.Owners.{claims, is_on, is_own, is_owned, is_private_page}
-use Rattle.bn_model.specs.Rows.{back_of, change_at, change_if, has_id, new_row, owner_of, owners, row_of, saved_of, with_row}
-use Rattle.bn_model.specs.State.{Hart, State, frame_of, hart_after_call, hart_after_next, hart_after_resume, hart_after_return, hart_after_set, hart_after_stop, hart_after_trap, hart_at, resting_hart, with_hart}
-use Rattle.bn_model.specs.Stepping.{after_call, after_evict, after_launch, after_resume, after_return, after_tick, after_trap_in, after_turn, frame_of_call, page_address, pages_after_poke, seen_page}
-use Rattle.bn_model.specs.Switching.{frame_of_caller, row_after_answer, row_after_call, row_after_resume, row_after_return, row_after_stop, row_after_wait, rows_after_call, rows_after_return}
+use Rattle.bn_model.specs.Rows.{back_of, change_at, change_if, has_id, new_row, owner_of, owners}
+use Rattle.bn_model.specs.Rows.{row_of, saved_of, with_row}
+use Rattle.bn_model.specs.State.{Hart, State, frame_of, hart_after_call, hart_after_next}
+use Rattle.bn_model.specs.State.{hart_after_resume, hart_after_return, hart_after_set}
+use Rattle.bn_model.specs.State.{hart_after_stop, hart_after_trap, hart_at, resting_hart, with_hart}
+use Rattle.bn_model.specs.Stepping.{after_call, after_evict, after_launch, after_resume}
+use Rattle.bn_model.specs.Stepping.{after_return, after_tick, after_trap_in, after_turn}
+use Rattle.bn_model.specs.Stepping.{frame_of_call, page_address, pages_after_poke, seen_page}
+use Rattle.bn_model.specs.Switching.{frame_of_caller, row_after_answer, row_after_call}
+use Rattle.bn_model.specs.Switching.{row_after_resume, row_after_return, row_after_stop}
+use Rattle.bn_model.specs.Switching.{row_after_wait, rows_after_call, rows_after_return}
 use Rattle.bn_model.specs.Walking.{access_fault}
 use Rattle.bn_model.proofs.BlankDecisions.{evicted-blanked}
 use Rattle.bn_model.proofs.BlankPages.{keeps-blank, set-blanked, store-blanked, visible-blanked}
 use Rattle.bn_model.proofs.ClaimLemmas.{owned-private, private-append, private-gone, private-left}
 use Rattle.bn_model.proofs.EachLemmas.{each-each, each-same, get-each}
-use Rattle.bn_model.proofs.RowLemmas.{Keeps, owners-with_row, row_of-other, seen-same, with_row-append, with_row-comm}
+use Rattle.bn_model.proofs.RowLemmas.{Keeps, owners-with_row, row_of-other, seen-same}
+use Rattle.bn_model.proofs.RowLemmas.{with_row-append, with_row-comm}
 use Rattle.bn_model.proofs.TestLemmas.{any-map, any-same, filter-map}
 
 -- ---- rows that change

@@ -1,5 +1,6 @@
 -- A store goes to no page that is private to a module that doesn't run.
-use Rattle.std.proofs.Common.{◌≡◌, ℕ, zero, suc, Bool, true, false, List, [], ◌∷◌, Option, Some, None, Result, Ok, Err}
+use Rattle.std.proofs.Common.{◌≡◌, ℕ, zero, suc, Bool, true, false, List, [], ◌∷◌, Option, Some}
+use Rattle.std.proofs.Common.{None, Result, Ok, Err}
 use Rattle.std.specs.List.{list_any}
 use Rattle.bn_types.specs.declared.act.Act.{Act}
 use Rattle.bn_types.specs.declared.act.Act.TheVariants as act
@@ -26,8 +27,14 @@ use Rattle.bn_model.specs.declared.owner.Owner.{Owner}
 use Rattle.bn_model.specs.declared.place.Place.{Place}
 use Rattle.bn_model.specs.Accessing.{access}
 use Rattle.bn_model.specs.CsrFile.{CsrDone}
-use Rattle.bn_model.specs.Deciding.{asked_of, csr_decision, decision_by_state, decision_of_act, decision_of_ask, decision_of_asked, decision_of_call, decision_of_denial, decision_of_ecall, decision_of_evict, decision_of_get, decision_of_hart, decision_of_launch, decision_of_load, decision_of_secure, decision_of_set, decision_of_store, is_entry, is_idle, refused_unless}
-use Rattle.bn_model.specs.Decision.{Acting, Asked, Call, Decision, Interrupted, Nothing, Resuming, Unfetched, Unknown}
+use Rattle.bn_model.specs.Deciding.{asked_of, csr_decision, decision_by_state, decision_of_act}
+use Rattle.bn_model.specs.Deciding.{decision_of_ask, decision_of_asked, decision_of_call}
+use Rattle.bn_model.specs.Deciding.{decision_of_denial, decision_of_ecall, decision_of_evict}
+use Rattle.bn_model.specs.Deciding.{decision_of_get, decision_of_hart, decision_of_launch}
+use Rattle.bn_model.specs.Deciding.{decision_of_load, decision_of_secure, decision_of_set}
+use Rattle.bn_model.specs.Deciding.{decision_of_store, is_entry, is_idle, refused_unless}
+use Rattle.bn_model.specs.Decision.{Acting, Asked, Call, Decision, Interrupted, Nothing, Resuming}
+use Rattle.bn_model.specs.Decision.{Unfetched, Unknown}
 use Rattle.bn_model.specs.Legality.{inside_only, kernel_only, outside_only, supervisor_only}
 use Rattle.bn_model.specs.Rows.{owners, row_of}
 use Rattle.bn_model.specs.State.{Hart, State, asker, memory, value_of}
@@ -175,10 +182,12 @@ module _
     of-act (act.Bastion asked) = of-secure m (owners s.rows) s hart asked
     of-act (act.Trap cause value) = tt
 
-    of-asked : (asked : Asked) → StoresElsewhere m (owners s.rows) (decision_of_asked s h hart asked)
+    of-asked : (asked : Asked)
+        → StoresElsewhere m (owners s.rows) (decision_of_asked s h hart asked)
     of-asked Nothing = tt
     of-asked (Interrupted cause) = tt
-    of-asked (Unfetched fault) = denied m (owners s.rows) kind.Fetch fault.cause fault.va fault.denied
+    of-asked (Unfetched fault) =
+        denied m (owners s.rows) kind.Fetch fault.cause fault.va fault.denied
     of-asked (Resuming id) = tt
     of-asked Unknown = tt
     of-asked (Acting a) = of-act a

@@ -1,5 +1,7 @@
 -- Which pages an event changes.
-use Rattle.std.proofs.Common.{◌≡◌, ℕ, ◌⊎◌, Bool, true, false, List, [], ◌∷◌, filter, map, set, Option, Some, None, Result, inl, inr, refl, sym, ap, subst, ◌∙◌, eqb-true}
+use Rattle.std.proofs.Common.{◌≡◌, ℕ, ◌⊎◌, Bool, true, false, List, [], ◌∷◌, filter, map, set}
+use Rattle.std.proofs.Common.{Option, Some, None, Result, inl, inr, refl, sym, ap, subst, ◌∙◌}
+use Rattle.std.proofs.Common.{eqb-true}
 use Rattle.std.proofs.lemmas.Bool.{both_ways, cases_eq, not-true}
 use Rattle.std.proofs.lemmas.List.{get_or-set_other}
 use Rattle.std.specs.List.{list_any}
@@ -18,14 +20,17 @@ use Rattle.bn_model.specs.declared.place.Place.{Place}
 use Rattle.bn_model.specs.Accessing.{access, is_aligned}
 use Rattle.bn_model.specs.Deciding.{decision_of, decision_of_hart}
 use Rattle.bn_model.specs.Decision.{Asked, Decision, Trap, Deny, Store, Evict}
-use Rattle.bn_model.specs.Evicting.{evicted_rows, is_among, is_given_up, pages_left, rows_left, stays}
+use Rattle.bn_model.specs.Evicting.{evicted_rows, is_among, is_given_up, pages_left, rows_left}
+use Rattle.bn_model.specs.Evicting.{stays}
 use Rattle.bn_model.specs.Memory.{visible}
 use Rattle.bn_model.specs.Owners.{Claim, claim_by, claims, claims_by, is_on, is_own}
 use Rattle.bn_model.specs.Rows.{owner_of, owners}
 use Rattle.bn_model.specs.Soundness.{Has}
 use Rattle.bn_model.specs.State.{Hart, State, asker, hart_at, memory}
 use Rattle.bn_model.specs.Stepping.{after_turn, pages_after_poke, seen_page, step}
-use Rattle.bn_model.specs.Touching.{Touch, direct, touch, touch_of_access, touch_of_asked, touch_of_device, touch_of_fetch, touch_of_hart, touch_of_place, walk_if}
+use Rattle.bn_model.specs.Touching.{Touch, direct, touch, touch_of_access, touch_of_asked}
+use Rattle.bn_model.specs.Touching.{touch_of_device, touch_of_fetch, touch_of_hart, touch_of_place}
+use Rattle.bn_model.specs.Touching.{walk_if}
 use Rattle.bn_model.specs.TouchingLaws.{ChangesAreTouched, IsGivenUp, IsStored}
 use Rattle.bn_model.specs.Walking.{access_fault, vpn_of}
 use Rattle.bn_model.proofs.ClaimLemmas.{three-true}

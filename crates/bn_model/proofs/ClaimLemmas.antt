@@ -1,5 +1,7 @@
 -- Laws of declarations: whose a page is, and whom the rule of admission lets reach it.
-use Rattle.std.proofs.Common.{◌≡◌, ℕ, zero, suc, ◌==◌, ◌&&◌, ◌||◌, Bool, true, false, not, List, [], ◌∷◌, ◌++◌, map, filter, find, Option, Some, None, inl, inr, refl, sym, ap, ◌∙◌, eqb-true, eq-eqb}
+use Rattle.std.proofs.Common.{◌≡◌, ℕ, zero, suc, ◌==◌, ◌&&◌, ◌||◌, Bool, true, false, not, List, []}
+use Rattle.std.proofs.Common.{◌∷◌, ◌++◌, map, filter, find, Option, Some, None, inl, inr, refl, sym}
+use Rattle.std.proofs.Common.{ap, ◌∙◌, eqb-true, eq-eqb}
 use Rattle.std.proofs.lemmas.Bool.{and_parts, both_ways, false_from_ne_true, not-true}
 use Rattle.std.proofs.lemmas.Map.Views.{any-filter_same}
 use Rattle.std.proofs.lemmas.List.Folds.{list_any-append}
@@ -12,9 +14,11 @@ use Rattle.bn_types.specs.declared.row.Row.{Row}
 use Rattle.bn_types.specs.declared.sort.Sort.{Sort}
 use Rattle.bn_types.specs.declared.sort.Sort.TheVariants.{Private, Offer, Accept}
 use Rattle.bn_model.specs.declared.owner.Owner.{Owner}
-use Rattle.bn_model.specs.Admission.{admits, admits_by, declaration, declared_by, has_right, is_at, is_backed, may_leave}
+use Rattle.bn_model.specs.Admission.{admits, admits_by, declaration, declared_by, has_right, is_at}
+use Rattle.bn_model.specs.Admission.{is_backed, may_leave}
 use Rattle.bn_model.specs.Evicting.{is_among, is_given_up, rows_left, stays}
-use Rattle.bn_model.specs.Owners.{Claim, claim_by, claims, claims_by, is_live, is_module, is_on, is_own, is_owned, is_private, is_private_of, is_private_page}
+use Rattle.bn_model.specs.Owners.{Claim, claim_by, claims, claims_by, is_live, is_module, is_on}
+use Rattle.bn_model.specs.Owners.{is_own, is_owned, is_private, is_private_of, is_private_page}
 use Rattle.bn_model.specs.Rows.{has_id, owner_of, owners}
 use Rattle.bn_model.specs.Soundness.{Has}
 use Rattle.bn_model.proofs.MembershipLemmas.{any-has, any-implies, has-find, has-flat_map, has-map}

@@ -1,5 +1,5 @@
--- What changes a hart's CSRs keeps their forms: `sepc` and the base of `stvec` are multiples of 4, and the
--- MODE of `satp` is one that is built. A trap goes to a multiple of 4.
+-- What changes a hart's CSRs keeps their forms: `sepc` and the base of `stvec` are multiples of 4,
+-- and the MODE of `satp` is one that is built. A trap goes to a multiple of 4.
 use Rattle.std.proofs.Common.{◌≡◌, ℕ, ◌%◌, Bool, true, false, Option, Some, None, arith, refl}
 use Rattle.std.specs.Prelude.{IfSome}
 use Rattle.bn_types.specs.declared.cause.Cause.{Cause}
@@ -31,7 +31,8 @@ use Rattle.bn_model.specs.CsrFile.{
   with_satp_if,
   without_low_bits,
 }
-use Rattle.bn_model.specs.Trapping.{after_software, after_sret, after_trap, code_of, is_interrupt, trap_target, vector}
+use Rattle.bn_model.specs.Trapping.{after_software, after_sret, after_trap, code_of, is_interrupt}
+use Rattle.bn_model.specs.Trapping.{trap_target, vector}
 
 without_low_bits-mod : (value : ℕ) → without_low_bits value % 4 ≡ 0
 without_low_bits-mod value = omega arith
@@ -77,7 +78,8 @@ with_satp-forms true value c e h = record {
 with_satp-forms false value c e h = h
 
 pub with_csr-forms :
-    (csr : Csr) (value : ℕ) (c : CsrFile) → HasCsrForms c → IfSome (with_csr csr value c) HasCsrForms
+    (csr : Csr) (value : ℕ) (c : CsrFile) → HasCsrForms c
+    → IfSome (with_csr csr value c) HasCsrForms
 with_csr-forms Sstatus value c h = record {
   sepc_aligned = h.sepc_aligned;
   base_aligned = h.base_aligned;
@@ -138,11 +140,13 @@ HasCsrForms-write c number value U h = tt
 HasCsrForms-write c number value S h = known-forms (csr_of number) value c h
 
 vector-aligned :
-    (vectored interrupt : Bool) (base code : ℕ) → base % 4 ≡ 0 → vector vectored interrupt base code % 4 ≡ 0
+    (vectored interrupt : Bool) (base code : ℕ) → base % 4 ≡ 0
+    → vector vectored interrupt base code % 4 ≡ 0
 vector-aligned true true base code h = omega arith
 vector-aligned true false base code h = h
 vector-aligned false interrupt base code h = h
 
-pub trap_target-aligned : (c : CsrFile) (cause : Cause) → HasCsrForms c → trap_target c cause % 4 ≡ 0
+pub trap_target-aligned : (c : CsrFile) (cause : Cause) → HasCsrForms c
+    → trap_target c cause % 4 ≡ 0
 trap_target-aligned c cause h =
     vector-aligned c.stvec_vectored (is_interrupt cause) c.stvec_base (code_of cause) h.base_aligned

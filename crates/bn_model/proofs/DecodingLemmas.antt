@@ -9,4 +9,5 @@ use Rattle.bn_model.proofs.WordLemmas.{IsInRange-Encodes}
 
 -- a word's instruction has its fields in range
 pub insn_in_range : (w : ℕ) (i : Insn) → insn_of w ≡ Some i → IsInRange i
-insn_in_range w i e = IsInRange-Encodes w i (subst (λ (r : Option Insn). IfSome r (Encodes w)) e (Encodes-insn_of w))
+insn_in_range w i e = IsInRange-Encodes w i
+    (subst (λ (r : Option Insn). IfSome r (Encodes w)) e (Encodes-insn_of w))

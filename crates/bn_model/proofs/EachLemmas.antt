@@ -1,5 +1,6 @@
 -- Laws of a change of each element by its place.
-use Rattle.std.proofs.Common.{◌≡◌, ℕ, zero, suc, ◌+◌, ◌<◌, List, [], ◌∷◌, length, get_or, set, slice_get, Some, option_map, refl, ap, ap₂, ◌∙◌, arith, zero-add}
+use Rattle.std.proofs.Common.{◌≡◌, ℕ, zero, suc, ◌+◌, ◌<◌, List, [], ◌∷◌, length, get_or, set}
+use Rattle.std.proofs.Common.{slice_get, Some, option_map, refl, ap, ap₂, ◌∙◌, arith, zero-add}
 use Rattle.bn_model.specs.Each.{each}
 
 pub length-each : {X Y : Type 0} (f : ℕ → X → Y) (i : ℕ) (xs : List X)

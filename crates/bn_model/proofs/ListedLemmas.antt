@@ -3,7 +3,8 @@ use Rattle.std.proofs.Common.{◌≡◌, ℕ, arith}
 use Rattle.std.specs.Prelude.{IfSome}
 use Rattle.std.proofs.lemmas.Bool.Decides.{nat_tests}
 use Rattle.bn_model.specs.Encoding.{Encodes}
-use Rattle.bn_model.specs.Decoding.{insn_of, jalr, branch, load, store, op_imm, op_reg, op_imm_32, op_reg_32, fence, system, environment, secure_of, secure_by}
+use Rattle.bn_model.specs.Decoding.{insn_of, jalr, branch, load, store, op_imm, op_reg, op_imm_32}
+use Rattle.bn_model.specs.Decoding.{op_reg_32, fence, system, environment, secure_of, secure_by}
 use Rattle.bn_model.specs.Fields.{opcode, funct3}
 
 jalr-listed : (w : ℕ) → opcode w ≡ 0b1100111 → IfSome (jalr w) (Encodes w)
@@ -42,7 +43,8 @@ fence-listed : (w : ℕ) → opcode w ≡ 0b0001111 → IfSome (fence w) (Encode
 unfolding fence
 fence-listed w h = grind (arith, nat_tests)
 
-environment-listed : (w : ℕ) → opcode w ≡ 0b1110011 → funct3 w ≡ 0 → IfSome (environment w) (Encodes w)
+environment-listed : (w : ℕ) → opcode w ≡ 0b1110011 → funct3 w ≡ 0
+    → IfSome (environment w) (Encodes w)
 unfolding environment
 environment-listed w h f = grind (arith, nat_tests)
 
@@ -56,4 +58,18 @@ secure-listed w h = grind (arith, nat_tests)
 
 pub Encodes-insn_of : (w : ℕ) → IfSome (insn_of w) (Encodes w)
 unfolding insn_of
-Encodes-insn_of w = grind (arith, nat_tests, jalr-listed, branch-listed, load-listed, store-listed, op_imm-listed, op_reg-listed, op_imm_32-listed, op_reg_32-listed, fence-listed, system-listed, secure-listed)
+Encodes-insn_of w = grind (
+  arith,
+  nat_tests,
+  jalr-listed,
+  branch-listed,
+  load-listed,
+  store-listed,
+  op_imm-listed,
+  op_reg-listed,
+  op_imm_32-listed,
+  op_reg_32-listed,
+  fence-listed,
+  system-listed,
+  secure-listed,
+)

@@ -1,7 +1,12 @@
 -- Laws of numbers that stand in pages.
-use Rattle.std.proofs.Common.{◌≡◌, ℕ, ◌+◌, ◌-◌, ◌*◌, ◌%◌, ◌^◌, ◌<◌, ◌≤◌, ◌⊎◌, List, [], length, take, drop, get_or, ◌++◌, inl, inr, refl, sym, ap, ◌∙◌, arith, zero-add}
-use Rattle.std.proofs.lemmas.List.{get_or-drop, get_or-take, get_or_append_left, get_or-append_right, length-take-le, length-append, length-drop, get_or-replicate, length-replicate}
-use Rattle.std.proofs.lemmas.Nat.{from_le_bytes-to_le_bytes_2, from_le_bytes-to_le_bytes_4, from_le_bytes-to_le_bytes_8}
+use Rattle.std.proofs.Common.{◌≡◌, ℕ, ◌+◌, ◌-◌, ◌*◌, ◌%◌, ◌^◌, ◌<◌, ◌≤◌, ◌⊎◌, List, [], length}
+use Rattle.std.proofs.Common.{take, drop, get_or, ◌++◌, inl, inr, refl, sym, ap, ◌∙◌, arith}
+use Rattle.std.proofs.Common.{zero-add}
+use Rattle.std.proofs.lemmas.List.{get_or-drop, get_or-take, get_or_append_left}
+use Rattle.std.proofs.lemmas.List.{get_or-append_right, length-take-le, length-append, length-drop}
+use Rattle.std.proofs.lemmas.List.{get_or-replicate, length-replicate}
+use Rattle.std.proofs.lemmas.Nat.{from_le_bytes-to_le_bytes_2, from_le_bytes-to_le_bytes_4}
+use Rattle.std.proofs.lemmas.Nat.{from_le_bytes-to_le_bytes_8}
 use Rattle.bn_types.specs.Numbers.{bytes_of, number_at, with_number, zero_page, low_bytes}
 use Rattle.bn_types.specs.declared.width.Width.{Width}
 use Rattle.bn_types.specs.declared.width.Width.TheVariants.{B1, B2, B4, B8}
@@ -21,7 +26,16 @@ number_at-same width p q o r e = at width slot where
   at B2 s = rw (s 0 (omega arith), s 1 (omega arith)) refl
   at B4 s = rw (s 0 (omega arith), s 1 (omega arith), s 2 (omega arith), s 3 (omega arith)) refl
   at B8 s =
-      rw (s 0 (omega arith), s 1 (omega arith), s 2 (omega arith), s 3 (omega arith), s 4 (omega arith), s 5 (omega arith), s 6 (omega arith), s 7 (omega arith)) refl
+      rw (
+        s 0 (omega arith),
+        s 1 (omega arith),
+        s 2 (omega arith),
+        s 3 (omega arith),
+        s 4 (omega arith),
+        s 5 (omega arith),
+        s 6 (omega arith),
+        s 7 (omega arith),
+      ) refl
 
 length-low_bytes : (width : Width) (v : ℕ) → length (low_bytes width v) ≡ bytes_of width
 length-low_bytes B1 v = refl
@@ -30,7 +44,8 @@ length-low_bytes B4 v = refl
 length-low_bytes B8 v = refl
 
 -- a page keeps its size
-pub length-with_number : (width : Width) (page : List ℕ) (o v : ℕ) → o + bytes_of width ≤ length page
+pub length-with_number : (width : Width) (page : List ℕ) (o v : ℕ)
+    → o + bytes_of width ≤ length page
     → length (with_number width page o v) ≡ length page
 unfolding with_number
 length-with_number width page o v h =
@@ -39,16 +54,20 @@ length-with_number width page o v h =
     simp (length-append, length-drop) (omega arith)
 
 -- the bytes that were written
-byte-written : (width : Width) (page : List ℕ) (o v k : ℕ) → o + bytes_of width ≤ length page → k < bytes_of width
+byte-written : (width : Width) (page : List ℕ) (o v k : ℕ) → o + bytes_of width ≤ length page
+    → k < bytes_of width
     → get_or (with_number width page o v) (o + k) 0 ≡ get_or (low_bytes width v) k 0
 unfolding with_number
 byte-written width page o v k h lt =
     let front : length (take o page) ≡ o = length-take-le o page (omega arith) in
     let bytes = length-low_bytes width v in
     let both = length-append (take o page) (low_bytes width v) in
-    let first : get_or (take o page ++ low_bytes width v ++ drop (o + bytes_of width) page) (o + k) 0 ≡ get_or (take o page ++ low_bytes width v) (o + k) 0 =
-    get_or_append_left (take o page ++ low_bytes width v) (drop (o + bytes_of width) page) 0 (o + k) (omega arith) in
-    let second : get_or (take o page ++ low_bytes width v) (o + k) 0 ≡ get_or (low_bytes width v) (o + k - o) 0 =
+    let first : get_or (take o page ++ low_bytes width v ++ drop (o + bytes_of width) page) (o + k)
+    0 ≡ get_or (take o page ++ low_bytes width v) (o + k) 0 =
+    get_or_append_left (take o page ++ low_bytes width v) (drop (o + bytes_of width) page) 0 (o + k)
+    (omega arith) in
+    let second : get_or (take o page ++ low_bytes width v) (o + k) 0 ≡
+    get_or (low_bytes width v) (o + k - o) 0 =
     get_or-append_right (take o page) (low_bytes width v) o (o + k) 0 front (omega arith) in
     let place : o + k - o ≡ k = omega arith in
     first ∙ second ∙ ap (λ n. get_or (low_bytes width v) n 0) place
@@ -60,7 +79,8 @@ unfolding with_number
 byte-kept width page o v k h (inl before) =
     let front : length (take o page) ≡ o = length-take-le o page (omega arith) in
     let both = length-append (take o page) (low_bytes width v) in
-    get_or_append_left (take o page ++ low_bytes width v) (drop (o + bytes_of width) page) 0 k (omega arith)
+    get_or_append_left (take o page ++ low_bytes width v) (drop (o + bytes_of width) page) 0 k
+    (omega arith)
     ∙ get_or_append_left (take o page) (low_bytes width v) 0 k (omega arith)
     ∙ get_or-take o page k 0 before
 byte-kept width page o v k h (inr after) =
@@ -74,12 +94,14 @@ byte-kept width page o v k h (inr after) =
     ∙ ap (λ i. get_or page i 0) place
 
 -- what was written is read
-pub number_at-with_number : (width : Width) (page : List ℕ) (o v : ℕ) → o + bytes_of width ≤ length page
+pub number_at-with_number : (width : Width) (page : List ℕ) (o v : ℕ)
+    → o + bytes_of width ≤ length page
     → number_at width (with_number width page o v) o ≡ v % 2 ^ (8 * bytes_of width)
 unfolding number_at
 number_at-with_number width page o v h =
     number_at-same width (with_number width page o v) (low_bytes width v) o 0
-    (λ k lt. byte-written width page o v k h lt ∙ ap (λ i. get_or (low_bytes width v) i 0) (sym (zero-add k)))
+    (λ k lt. byte-written width page o v k h lt
+    ∙ ap (λ i. get_or (low_bytes width v) i 0) (sym (zero-add k)))
     ∙ back width
   where
     back : (w : Width) → number_at w (low_bytes w v) 0 ≡ v % 2 ^ (8 * bytes_of w)
@@ -89,13 +111,16 @@ number_at-with_number width page o v h =
     back B8 = from_le_bytes-to_le_bytes_8 (v % 2 ^ 64) (omega arith)
 
 -- a number elsewhere in the page stays
-pub number_at-elsewhere : (width wide : Width) (page : List ℕ) (o r v : ℕ) → o + bytes_of width ≤ length page
+pub number_at-elsewhere : (width wide : Width) (page : List ℕ) (o r v : ℕ)
+    → o + bytes_of width ≤ length page
     → (r + bytes_of wide ≤ o) ⊎ (o + bytes_of width ≤ r)
     → number_at wide (with_number width page o v) r ≡ number_at wide page r
 number_at-elsewhere width wide page o r v h (inl before) =
-    number_at-same wide (with_number width page o v) page r r (λ k lt. byte-kept width page o v (r + k) h (inl (omega arith)))
+    number_at-same wide (with_number width page o v) page r r
+    (λ k lt. byte-kept width page o v (r + k) h (inl (omega arith)))
 number_at-elsewhere width wide page o r v h (inr after) =
-    number_at-same wide (with_number width page o v) page r r (λ k lt. byte-kept width page o v (r + k) h (inr (omega arith)))
+    number_at-same wide (with_number width page o v) page r r
+    (λ k lt. byte-kept width page o v (r + k) h (inr (omega arith)))
 
 pub length-zero_page : length zero_page ≡ 4096
 unfolding zero_page
@@ -106,10 +131,12 @@ unfolding zero_page
 byte-zero_page k h = get_or-replicate 4096 k 0 0 h
 
 -- a page of zeros holds zeros
-pub number_at-zero_page : (width : Width) (o : ℕ) → o + bytes_of width ≤ 4096 → number_at width zero_page o ≡ 0
+pub number_at-zero_page : (width : Width) (o : ℕ) → o + bytes_of width ≤ 4096
+    → number_at width zero_page o ≡ 0
 unfolding number_at
 number_at-zero_page width o h =
-    number_at-same width zero_page [] o 0 (λ k lt. byte-zero_page (o + k) (omega arith)) ∙ none width
+    number_at-same width zero_page [] o 0 (λ k lt. byte-zero_page (o + k) (omega arith))
+    ∙ none width
   where
     none : (w : Width) → number_at w [] 0 ≡ 0
     none B1 = refl
@@ -121,5 +148,6 @@ number_at-zero_page width o h =
 pub number_at-byte : (page : List ℕ) (offset : ℕ) → number_at B1 page offset ≡ get_or page offset 0
 unfolding number_at
 number_at-byte page offset =
-    let first : get_or (drop offset page) 0 0 ≡ get_or page offset 0 = get_or-drop offset page 0 0 ∙ ap (λ n. get_or page n 0) (omega arith) in
+    let first : get_or (drop offset page) 0 0 ≡ get_or page offset 0 = get_or-drop offset page 0 0
+    ∙ ap (λ n. get_or page n 0) (omega arith) in
     omega arith

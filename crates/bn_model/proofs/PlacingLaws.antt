@@ -5,18 +5,23 @@ use Rattle.bn_model.specs.Nesting.{Nested, IsTree, leaf_to, table_frames, placed
 use Rattle.bn_model.proofs.NestingLaws.{entry-other_frame, placed-kept}
 
 -- a frame past the tables that changes leaves the placement
-pub placed-past : (ram : ℕ) (frames : List (List ℕ)) (f : ℕ) (bytes : List ℕ) (page : ℕ) → table_frames ram ≤ f
+pub placed-past : (ram : ℕ) (frames : List (List ℕ)) (f : ℕ) (bytes : List ℕ) (page : ℕ)
+    → table_frames ram ≤ f
     → placed_in ram (set frames f bytes) page ≡ placed_in ram frames page
 placed-past ram frames f bytes page past =
     placed-kept ram frames (set frames f bytes) page
-    (λ lt. entry-other_frame frames f bytes (5 + page / 512) (page % 512) (λ e. absurd (omega arith)))
+    (λ lt. entry-other_frame frames f bytes (5 + page / 512) (page % 512)
+    (λ e. absurd (omega arith)))
 
 -- and the tree
-pub tree-past : (n : Nested) (f : ℕ) (bytes : List ℕ) (free : List Frame) → table_frames n.ram ≤ f → IsTree n
+pub tree-past : (n : Nested) (f : ℕ) (bytes : List ℕ) (free : List Frame) → table_frames n.ram ≤ f
+    → IsTree n
     → IsTree (record { frames = set n.frames f bytes; free = free; ram = n.ram })
 tree-past n f bytes free past t = record {
-  root = λ i lt. entry-other_frame n.frames f bytes (i / 512) (i % 512) (λ e. absurd (omega arith)) ∙ t.root i lt;
-  middle = λ i lt. entry-other_frame n.frames f bytes 4 i (λ e. absurd (omega arith)) ∙ t.middle i lt;
+  root = λ i lt. entry-other_frame n.frames f bytes (i / 512) (i % 512) (λ e. absurd (omega arith))
+      ∙ t.root i lt;
+  middle = λ i lt. entry-other_frame n.frames f bytes 4 i (λ e. absurd (omega arith))
+      ∙ t.middle i lt;
   low = λ page lt.
       entry-other_frame n.frames f bytes (5 + page / 512) (page % 512) (λ e. absurd (omega arith))
       ∙ t.low page lt

@@ -1,5 +1,6 @@
 -- What a turn leaves of a module that doesn't run in it.
-use Rattle.std.proofs.Common.{◌≡◌, ℕ, zero, suc, Bool, true, false, not, List, [], set, Option, Some, None, refl, sym, ap, ◌∙◌, ne_eqb, eqb-true}
+use Rattle.std.proofs.Common.{◌≡◌, ℕ, zero, suc, Bool, true, false, not, List, [], set, Option}
+use Rattle.std.proofs.Common.{Some, None, refl, sym, ap, ◌∙◌, ne_eqb, eqb-true}
 use Rattle.std.proofs.lemmas.Bool.{and_parts, both_ways, not-true}
 use Rattle.std.proofs.lemmas.List.{get_or-set_other}
 use Rattle.std.specs.List.{list_any}
@@ -15,17 +16,23 @@ use Rattle.bn_model.specs.declared.owner.Owner.{Owner}
 use Rattle.bn_model.specs.Blanking.{rests}
 use Rattle.bn_model.specs.BlankingLaws.{RestsIn}
 use Rattle.bn_model.specs.Deciding.{decision_of, decision_of_hart}
-use Rattle.bn_model.specs.Decision.{Decision, Trap, Deny, Store, Launch, Call, Return, Resume, Evict}
-use Rattle.bn_model.specs.Evicting.{evicted_rows, is_among, is_given_up, page_left, pages_left, rows_left, stays, zeros_if}
+use Rattle.bn_model.specs.Decision.{Decision, Trap, Deny, Store, Launch, Call, Return, Resume}
+use Rattle.bn_model.specs.Decision.{Evict}
+use Rattle.bn_model.specs.Evicting.{evicted_rows, is_among, is_given_up, page_left, pages_left}
+use Rattle.bn_model.specs.Evicting.{rows_left, stays, zeros_if}
 use Rattle.bn_model.specs.Owners.{claims, is_live, is_private_page}
 use Rattle.bn_model.specs.Rows.{has_id, new_row, owners, row_of, with_row}
 use Rattle.bn_model.specs.Soundness.{IsSound}
 use Rattle.bn_model.specs.State.{Hart, State, frame_of, hart_at}
-use Rattle.bn_model.specs.Stepping.{Fits, after_trap_in, after_turn, frame_of_call, pages_after_poke, seen_page, step}
-use Rattle.bn_model.specs.Switching.{row_after_answer, row_after_call, row_after_resume, row_after_return, row_after_stop, row_after_wait, rows_after_call, rows_after_return}
+use Rattle.bn_model.specs.Stepping.{Fits, after_trap_in, after_turn, frame_of_call}
+use Rattle.bn_model.specs.Stepping.{pages_after_poke, seen_page, step}
+use Rattle.bn_model.specs.Switching.{row_after_answer, row_after_call, row_after_resume}
+use Rattle.bn_model.specs.Switching.{row_after_return, row_after_stop, row_after_wait}
+use Rattle.bn_model.specs.Switching.{rows_after_call, rows_after_return}
 use Rattle.bn_model.specs.Walking.{access_fault}
 use Rattle.bn_model.proofs.BlankLemmas.{below-next}
-use Rattle.bn_model.proofs.BlankSteps.{StartsOthers, StoresElsewhere, rests-apart, seen-public, starts-others}
+use Rattle.bn_model.proofs.BlankSteps.{StartsOthers, StoresElsewhere, rests-apart, seen-public}
+use Rattle.bn_model.proofs.BlankSteps.{starts-others}
 use Rattle.bn_model.proofs.BlankStores.{stores-elsewhere}
 use Rattle.bn_model.proofs.ClaimLemmas.{ArePrivate, live-left, private-stays}
 use Rattle.bn_model.proofs.EachLemmas.{get_or-kept}

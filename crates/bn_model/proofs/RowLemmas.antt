@@ -1,12 +1,15 @@
 -- What a change of one row leaves of all rows.
-use Rattle.std.proofs.Common.{◌≡◌, ℕ, ◌==◌, ◌||◌, Bool, true, false, cond, List, [], ◌∷◌, ◌++◌, length, map, Option, Some, None, is_some, option_map, refl, sym, ap, ap₂, ◌∙◌, eqb-true, ne_eqb}
+use Rattle.std.proofs.Common.{◌≡◌, ℕ, ◌==◌, ◌||◌, Bool, true, false, cond, List, [], ◌∷◌, ◌++◌}
+use Rattle.std.proofs.Common.{length, map, Option, Some, None, is_some, option_map, refl, sym, ap}
+use Rattle.std.proofs.Common.{ap₂, ◌∙◌, eqb-true, ne_eqb}
 use Rattle.std.proofs.lemmas.Bool.{or_parts}
 use Rattle.std.proofs.lemmas.List.{length-map, map-append}
 use Rattle.bn_types.specs.declared.mod_id.ModId.{ModId}
 use Rattle.bn_types.specs.declared.row.Row.{Row}
 use Rattle.bn_model.specs.declared.owner.Owner.{Owner}
 use Rattle.bn_model.specs.Owners.{is_live}
-use Rattle.bn_model.specs.Rows.{Enclave, enclave_of, enclaves, owner_of, owners, has_id, row_of, change_if, change_at, with_row}
+use Rattle.bn_model.specs.Rows.{Enclave, enclave_of, enclaves, owner_of, owners, has_id, row_of}
+use Rattle.bn_model.specs.Rows.{change_if, change_at, with_row}
 use Rattle.bn_model.proofs.TestLemmas.{find-map, find-passes}
 
 -- a change that leaves what never changes of a row

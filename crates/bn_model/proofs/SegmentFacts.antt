@@ -1,5 +1,7 @@
 -- What an accepted segment text has: each test passes, and what that says of the segment.
-use Rattle.std.proofs.Common.{◌≡◌, ℕ, ◌+◌, ◌-◌, ◌*◌, ◌/◌, ◌%◌, ◌^◌, ◌<◌, ◌≤◌, ◌⊎◌, Bool, true, false, List, ◌&&◌, length, map, get_or, drop, refl, sym, ap, subst, ◌∙◌, inl, inr, arith, zero, suc, zero-add}
+use Rattle.std.proofs.Common.{◌≡◌, ℕ, ◌+◌, ◌-◌, ◌*◌, ◌/◌, ◌%◌, ◌^◌, ◌<◌, ◌≤◌, ◌⊎◌, Bool, true}
+use Rattle.std.proofs.Common.{false, List, ◌&&◌, length, map, get_or, drop, refl, sym, ap, subst}
+use Rattle.std.proofs.Common.{◌∙◌, inl, inr, arith, zero, suc, zero-add}
 use Rattle.std.specs.Prelude.{◌==◌, ◌||◌, nat_lt, nat_le, Option, Some, None, Ok}
 use Rattle.std.specs.List.{All, Contains, list_all, list_any, range_with_len}
 use Rattle.std.specs.Int.{from_le_bytes, w64}
@@ -14,8 +16,15 @@ use Rattle.bn_types.specs.declared.seg_fault.SegFault.{SegFault}
 use Rattle.bn_types.specs.declared.seg_page.SegPage.{SegPage}
 use Rattle.bn_types.specs.declared.segment.Segment.{Segment}
 use Rattle.bn_model.specs.Bits.{is_set}
-use Rattle.bn_model.specs.SegmentLaws.{AreBytes, IsCode, IsDigest, IsEntry, IsPage, IsSegment, VpnsAscend}
-use Rattle.bn_model.specs.Segments.{are_placed, ascends, by_fault, entry_count, entry_in, first_fault, has_entries, has_magic, has_mask, has_mode, has_pages, has_partners, has_rights, has_version, holds_code, have_masks, have_rights, have_sorts, in_order, is_executed, is_padded, is_placed, on_pages, page_count, page_in, partner_count, partner_in, segment_in, segment_of, sort_if, sort_in, rights_in, unless, vpn_in}
+use Rattle.bn_model.specs.SegmentLaws.{AreBytes, IsCode, IsDigest, IsEntry, IsPage, IsSegment}
+use Rattle.bn_model.specs.SegmentLaws.{VpnsAscend}
+use Rattle.bn_model.specs.Segments.{are_placed, ascends, by_fault, entry_count, entry_in}
+use Rattle.bn_model.specs.Segments.{first_fault, has_entries, has_magic, has_mask, has_mode}
+use Rattle.bn_model.specs.Segments.{has_pages, has_partners, has_rights, has_version, holds_code}
+use Rattle.bn_model.specs.Segments.{have_masks, have_rights, have_sorts, in_order, is_executed}
+use Rattle.bn_model.specs.Segments.{is_padded, is_placed, on_pages, page_count, page_in}
+use Rattle.bn_model.specs.Segments.{partner_count, partner_in, segment_in, segment_of, sort_if}
+use Rattle.bn_model.specs.Segments.{sort_in, rights_in, unless, vpn_in}
 
 -- ---- an accepted text passes each test
 
@@ -33,7 +42,8 @@ pub record Passes (text : List ℕ) : Type 0 where
   pub padded : is_padded text ≡ true
 
 -- a test that nothing is told of passed, and nor is anything told of the next ones
-unless-none : (test : Bool) (refusal : SegFault) (next : Option SegFault) → unless test refusal next ≡ None → (test ≡ true) × (next ≡ None)
+unless-none : (test : Bool) (refusal : SegFault) (next : Option SegFault)
+    → unless test refusal next ≡ None → (test ≡ true) × (next ≡ None)
 unless-none true refusal next e = (refl, e)
 unless-none false refusal next e = cc
 
@@ -66,10 +76,12 @@ passes text e =
     }
 
 -- an accepted text has no fault and says its segment
-pub accepted : (text : List ℕ) (s : Segment) → segment_of text ≡ Ok s → (first_fault text ≡ None) × (segment_in text ≡ s)
+pub accepted : (text : List ℕ) (s : Segment) → segment_of text ≡ Ok s
+    → (first_fault text ≡ None) × (segment_in text ≡ s)
 unfolding segment_of
 accepted text s e = go (first_fault text) refl e where
-  go : (f : Option SegFault) → first_fault text ≡ f → by_fault f (segment_in text) ≡ Ok s → (first_fault text ≡ None) × (segment_in text ≡ s)
+  go : (f : Option SegFault) → first_fault text ≡ f → by_fault f (segment_in text) ≡ Ok s
+      → (first_fault text ≡ None) × (segment_in text ≡ s)
   go None p q = (p, cc)
   go (Some refusal) p q = cc
 
@@ -79,16 +91,19 @@ pub both : (a b : Bool) → (a && b) ≡ true → (a ≡ true) × (b ≡ true)
 both true b e = (refl, e)
 both false b e = cc
 
-all_of_range : (test : ℕ → Bool) (a n i : ℕ) → list_all test (range_with_len a n) ≡ true → i < n → test (a + i) ≡ true
+all_of_range : (test : ℕ → Bool) (a n i : ℕ) → list_all test (range_with_len a n) ≡ true → i < n
+    → test (a + i) ≡ true
 all_of_range test a zero i e lt = absurd (omega arith)
 all_of_range test a (suc n) zero e lt =
     let here : a + 0 ≡ a = omega arith in
     ap test here ∙ (both (test a) (list_all test (range_with_len (a + 1) n)) e).0
 all_of_range test a (suc n) (suc i) e lt =
     let here : a + 1 + i ≡ a + suc i = omega arith in
-    ap test (sym here) ∙ all_of_range test (a + 1) n i (both (test a) (list_all test (range_with_len (a + 1) n)) e).1 (omega arith)
+    ap test (sym here) ∙ all_of_range test (a + 1) n i
+    (both (test a) (list_all test (range_with_len (a + 1) n)) e).1 (omega arith)
 
-pub all_below : (test : ℕ → Bool) (n i : ℕ) → list_all test (range_with_len 0 n) ≡ true → i < n → test i ≡ true
+pub all_below : (test : ℕ → Bool) (n i : ℕ) → list_all test (range_with_len 0 n) ≡ true → i < n
+    → test i ≡ true
 all_below test n i e lt = ap test (sym (zero-add i)) ∙ all_of_range test 0 n i e lt
 
 -- ---- numbers of bytes
@@ -118,11 +133,13 @@ number-fits text o bytes =
 
 -- ---- the parts of the segment
 
-pub few_entries : (text : List ℕ) → has_entries text ≡ true → (1 ≤ entry_count text) × (entry_count text ≤ 8)
+pub few_entries : (text : List ℕ) → has_entries text ≡ true
+    → (1 ≤ entry_count text) × (entry_count text ≤ 8)
 unfolding has_entries
 few_entries text e = grind (arith, nat_tests)
 
-pub few_pages : (text : List ℕ) → has_pages text ≡ true → (1 ≤ page_count text) × (page_count text ≤ 64)
+pub few_pages : (text : List ℕ) → has_pages text ≡ true
+    → (1 ≤ page_count text) × (page_count text ≤ 64)
 unfolding has_pages
 few_pages text e = grind (arith, nat_tests)
 
@@ -133,11 +150,14 @@ few_partners text e =
     grind (arith, nat_tests)
 
 -- a search of a range that succeeds, at some number
-found_in_range : (test : ℕ → Bool) (a n : ℕ) → list_any test (range_with_len a n) ≡ true → (i : ℕ) × (i < n) × (test (a + i) ≡ true)
+found_in_range : (test : ℕ → Bool) (a n : ℕ) → list_any test (range_with_len a n) ≡ true
+    → (i : ℕ) × (i < n) × (test (a + i) ≡ true)
 found_in_range test a zero e = cc
 found_in_range test a (suc n) e = go (test a) (found_in_range test (a + 1) n) refl e where
-  go : (b : Bool) → (list_any test (range_with_len (a + 1) n) ≡ true → (i : ℕ) × (i < n) × (test (a + 1 + i) ≡ true))
-      → test a ≡ b → (b || list_any test (range_with_len (a + 1) n)) ≡ true → (i : ℕ) × (i < suc n) × (test (a + i) ≡ true)
+  go : (b : Bool) → (list_any test (range_with_len (a + 1) n) ≡ true
+      → (i : ℕ) × (i < n) × (test (a + 1 + i) ≡ true))
+      → test a ≡ b → (b || list_any test (range_with_len (a + 1) n)) ≡ true
+      → (i : ℕ) × (i < suc n) × (test (a + i) ≡ true)
   go true rest p q =
       let here : a + 0 ≡ a = omega arith in
       (0, omega arith, ap test here ∙ p)
@@ -146,7 +166,8 @@ found_in_range test a (suc n) e = go (test a) (found_in_range test (a + 1) n) re
       let here : a + suc found.0 ≡ a + 1 + found.0 = omega arith in
       (suc found.0, omega (arith, found.1), ap test here ∙ found.2)
 
-found_below : (test : ℕ → Bool) (n : ℕ) → list_any test (range_with_len 0 n) ≡ true → (i : ℕ) × (i < n) × (test i ≡ true)
+found_below : (test : ℕ → Bool) (n : ℕ) → list_any test (range_with_len 0 n) ≡ true
+    → (i : ℕ) × (i < n) × (test i ≡ true)
 found_below test n e =
     let found = found_in_range test 0 n e in
     (found.0, found.1, ap test (sym (zero-add found.0)) ∙ found.2)
@@ -157,17 +178,24 @@ code-is text vpn i e =
     let t2 = both (vpn_in text i == vpn && sort_in text i == 1) (is_set (rights_in text i) 2) e in
     let t1 = both (vpn_in text i == vpn) (sort_in text i == 1) t2.0 in
     let same : vpn_in text i ≡ vpn = let h = t1.0 in grind (arith, nat_tests) in
-    record { vpn = same; «private» = ap (λ (b : Bool). sort_if b (sort_in text i == 2)) t1.1; fetch = t2.1 }
+    record {
+      vpn = same;
+      «private» = ap (λ (b : Bool). sort_if b (sort_in text i == 2)) t1.1;
+      fetch = t2.1;
+    }
 
 code-among : (text : List ℕ) (vpn : ℕ) → is_executed text vpn ≡ true
-    → (page : SegPage) × Contains (map (page_in text) (range_with_len 0 (page_count text))) page × IsCode vpn page
+    → (page : SegPage) × Contains (map (page_in text) (range_with_len 0 (page_count text))) page ×
+    IsCode vpn page
 unfolding is_executed
 code-among text vpn e =
     let n = page_count text in
     let found = found_below (holds_code text vpn) n e in
     let i = found.0 in
-    let within : i < length (map (page_in text) (range_with_len 0 n)) = omega (arith, found.1, length-map-range_with_len (page_in text) 0 n) in
-    let here : get_or (map (page_in text) (range_with_len 0 n)) i (page_in text i) ≡ page_in text i =
+    let within : i < length (map (page_in text) (range_with_len 0 n)) =
+    omega (arith, found.1, length-map-range_with_len (page_in text) 0 n) in
+    let here : get_or (map (page_in text) (range_with_len 0 n)) i (page_in text i) ≡
+    page_in text i =
     get_or-map-range_with_len (page_in text) 0 n i i (page_in text i) found.1 (zero-add i) in
     (page_in text i, (i, within, here), code-is text vpn i found.2)
 
@@ -187,26 +215,32 @@ pub vpn-fits : (text : List ℕ) (i : ℕ) → ascends text i ≡ true → vpn_i
 unfolding ascends
 vpn-fits text i e = grind (arith, nat_tests)
 
-pub vpn-more : (text : List ℕ) (i : ℕ) → ascends text (i + 1) ≡ true → vpn_in text i < vpn_in text (i + 1)
+pub vpn-more : (text : List ℕ) (i : ℕ) → ascends text (i + 1) ≡ true
+    → vpn_in text i < vpn_in text (i + 1)
 unfolding ascends
 vpn-more text i e =
     let back : i + 1 - 1 ≡ i = omega arith in
     go (vpn_in text i) (vpn_in text (i + 1)) (ap (vpn_in text) back) e where
-      go : (low high : ℕ) → vpn_in text (i + 1 - 1) ≡ low → (nat_lt high (2 ^ 52) && ((i + 1 == 0) || nat_lt (vpn_in text (i + 1 - 1)) high)) ≡ true → low < high
+      go : (low high : ℕ) → vpn_in text (i + 1 - 1) ≡ low
+          → (nat_lt high (2 ^ 52) && ((i + 1 == 0) || nat_lt (vpn_in text (i + 1 - 1)) high)) ≡ true
+          → low < high
       go low high same h = grind (arith, nat_tests)
 
 -- virtual pages ascend over any distance
-vpns-ascend : (text : List ℕ) (n i k : ℕ) → ((j : ℕ) → j < n → ascends text j ≡ true) → i + suc k < n → vpn_in text i < vpn_in text (i + suc k)
+vpns-ascend : (text : List ℕ) (n i k : ℕ) → ((j : ℕ) → j < n → ascends text j ≡ true)
+    → i + suc k < n → vpn_in text i < vpn_in text (i + suc k)
 vpns-ascend text n i zero h lt =
     let here : i + 1 ≡ i + suc zero = omega arith in
     rw (← here) (vpn-more text i (h (i + 1) (omega arith)))
 vpns-ascend text n i (suc k) h lt =
     let next : i + suc k + 1 ≡ i + suc (suc k) = omega arith in
-    let step : vpn_in text (i + suc k) < vpn_in text (i + suc k + 1) = vpn-more text (i + suc k) (h (i + suc k + 1) (omega arith)) in
+    let step : vpn_in text (i + suc k) < vpn_in text (i + suc k + 1) =
+    vpn-more text (i + suc k) (h (i + suc k + 1) (omega arith)) in
     let so_far = vpns-ascend text n i k h (omega arith) in
     rw (← next) (omega arith)
 
-page-is : (text : List ℕ) (i : ℕ) → AreBytes text → ascends text i ≡ true → has_rights text i ≡ true → has_mask text i ≡ true
+page-is : (text : List ℕ) (i : ℕ) → AreBytes text → ascends text i ≡ true → has_rights text i ≡ true
+    → has_mask text i ≡ true
     → IsPage (partner_count text) (page_in text i)
 unfolding page_in has_rights has_mask
 page-is text i bytes in_order rights mask = record {
@@ -220,40 +254,51 @@ page-vpn : (text : List ℕ) (i : ℕ) → (page_in text i).vpn.0 ≡ vpn_in tex
 unfolding page_in
 page-vpn text i = refl
 
-pub all_of_map : {X : Type 0} (P : X → Type 0) (f : ℕ → X) (n : ℕ) → ((i : ℕ) → i < n → P (f i)) → All P (map f (range_with_len 0 n))
+pub all_of_map : {X : Type 0} (P : X → Type 0) (f : ℕ → X) (n : ℕ) → ((i : ℕ) → i < n → P (f i))
+    → All P (map f (range_with_len 0 n))
 all_of_map P f n h k d lt =
     let within : k < n = omega (arith, length-map-range_with_len f 0 n) in
     subst P (sym (get_or-map-range_with_len f 0 n k k d within (zero-add k))) (h k within)
 
 entries-are : (text : List ℕ) → AreBytes text → are_placed text ≡ true
-    → All (IsEntry (map (page_in text) (range_with_len 0 (page_count text)))) (map (entry_in text) (range_with_len 0 (entry_count text)))
+    → All (IsEntry (map (page_in text) (range_with_len 0 (page_count text))))
+    (map (entry_in text) (range_with_len 0 (entry_count text)))
 unfolding are_placed
 entries-are text bytes e =
-    all_of_map (IsEntry (map (page_in text) (range_with_len 0 (page_count text)))) (entry_in text) (entry_count text)
+    all_of_map (IsEntry (map (page_in text) (range_with_len 0 (page_count text)))) (entry_in text)
+    (entry_count text)
     (λ i lt. entry-is text i bytes (all_below (is_placed text) (entry_count text) i e lt))
 
-partner-is : (text : List ℕ) (i : ℕ) → AreBytes text → 1104 + 32 * i + 32 ≤ length text → IsDigest (partner_in text i)
+partner-is : (text : List ℕ) (i : ℕ) → AreBytes text → 1104 + 32 * i + 32 ≤ length text
+    → IsDigest (partner_in text i)
 partner-is text i bytes inside =
     let o = 1104 + 32 * i in
     record {
-      size = length-take-le (o + 32 - o) (drop o text) (omega (arith, length-drop o text)) ∙ omega arith;
-      bytes = All-take (λ byte. byte < 256) (o + 32 - o) (drop o text) (All-drop (λ byte. byte < 256) o text bytes);
+      size = length-take-le (o + 32 - o) (drop o text) (omega (arith, length-drop o text))
+          ∙ omega arith;
+      bytes = All-take (λ byte. byte < 256) (o + 32 - o) (drop o text)
+          (All-drop (λ byte. byte < 256) o text bytes);
     }
 
-masks-are : (text : List ℕ) → has_partners text ≡ true → (i : ℕ) → i < page_count text → has_mask text i ≡ true
+masks-are : (text : List ℕ) → has_partners text ≡ true → (i : ℕ) → i < page_count text
+    → has_mask text i ≡ true
 unfolding has_partners have_masks
 masks-are text e i lt =
-    all_below (has_mask text) (page_count text) i (both (nat_le (partner_count text) 4) (on_pages (has_mask text) text) e).1 lt
+    all_below (has_mask text) (page_count text) i
+    (both (nat_le (partner_count text) 4) (on_pages (has_mask text) text) e).1 lt
 
-pub order-is : (text : List ℕ) → in_order text ≡ true → (i : ℕ) → i < page_count text → ascends text i ≡ true
+pub order-is : (text : List ℕ) → in_order text ≡ true → (i : ℕ) → i < page_count text
+    → ascends text i ≡ true
 unfolding in_order
 order-is text e i lt = all_below (ascends text) (page_count text) i e lt
 
-rights-are : (text : List ℕ) → have_rights text ≡ true → (i : ℕ) → i < page_count text → has_rights text i ≡ true
+rights-are : (text : List ℕ) → have_rights text ≡ true → (i : ℕ) → i < page_count text
+    → has_rights text i ≡ true
 unfolding have_rights
 rights-are text e i lt = all_below (has_rights text) (page_count text) i e lt
 
-pages-ascend : (text : List ℕ) → in_order text ≡ true → VpnsAscend (map (page_in text) (range_with_len 0 (page_count text)))
+pages-ascend : (text : List ℕ) → in_order text ≡ true
+    → VpnsAscend (map (page_in text) (range_with_len 0 (page_count text)))
 pages-ascend text e i j d before within =
     let n = page_count text in
     let below : j < n = omega (arith, length-map-range_with_len (page_in text) 0 n) in
@@ -265,10 +310,12 @@ pages-ascend text e i j d before within =
     let less : vpn_in text i < vpn_in text (i + suc (j - i - 1)) =
     vpns-ascend text n i (j - i - 1) (order-is text e) (omega arith) in
     let low = ap (λ (page : SegPage). page.vpn.0) at_i ∙ page-vpn text i in
-    let high = ap (λ (page : SegPage). page.vpn.0) at_j ∙ page-vpn text j ∙ ap (vpn_in text) (sym far) in
+    let high = ap (λ (page : SegPage). page.vpn.0) at_j ∙ page-vpn text j
+    ∙ ap (vpn_in text) (sym far) in
     omega arith
 
-is_segment : (text : List ℕ) → AreBytes text → length text ≡ 1232 → Passes text → IsSegment (segment_in text)
+is_segment : (text : List ℕ) → AreBytes text → length text ≡ 1232 → Passes text
+    → IsSegment (segment_in text)
 unfolding segment_in
 is_segment text bytes long p =
     let entry_length = length-map-range_with_len (entry_in text) 0 (entry_count text) in
@@ -283,14 +330,18 @@ is_segment text bytes long p =
       entries = entries-are text bytes p.placed;
       some_pages = omega arith;
       few_pages = omega arith;
-      pages = rw partner_length (all_of_map (IsPage (partner_count text)) (page_in text) (page_count text)
-          (λ i lt. page-is text i bytes (order-is text p.order i lt) (rights-are text p.rights i lt) (masks-are text p.partners i lt)));
+      pages = rw partner_length
+          (all_of_map (IsPage (partner_count text)) (page_in text) (page_count text)
+          (λ i lt. page-is text i bytes (order-is text p.order i lt) (rights-are text p.rights i lt)
+          (masks-are text p.partners i lt)));
       order = pages-ascend text p.order;
       few_partners = omega arith;
-      partners = all_of_map IsDigest (partner_in text) (partner_count text) (λ i lt. partner-is text i bytes (omega arith));
+      partners = all_of_map IsDigest (partner_in text) (partner_count text)
+          (λ i lt. partner-is text i bytes (omega arith));
     }
 
-pub accepted-is_segment : (text : List ℕ) (s : Segment) → AreBytes text → length text ≡ 1232 → segment_of text ≡ Ok s → IsSegment s
+pub accepted-is_segment : (text : List ℕ) (s : Segment) → AreBytes text → length text ≡ 1232
+    → segment_of text ≡ Ok s → IsSegment s
 accepted-is_segment text s bytes long e =
     let h = accepted text s e in
     subst IsSegment h.1 (is_segment text bytes long (passes text h.0))

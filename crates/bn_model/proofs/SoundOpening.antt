@@ -1,5 +1,7 @@
 -- The opening state is sound.
-use Rattle.std.proofs.Common.{◌≡◌, ℕ, zero, suc, ◌+◌, ◌-◌, ◌*◌, ◌%◌, ◌^◌, ◌<◌, ◌≤◌, Bool, true, false, drop, get_or, length, List, [], ◌∷◌, map, replicate, take, Option, Some, None, refl, sym, ap, subst, ◌∙◌, arith, length-drop}
+use Rattle.std.proofs.Common.{◌≡◌, ℕ, zero, suc, ◌+◌, ◌-◌, ◌*◌, ◌%◌, ◌^◌, ◌<◌, ◌≤◌, Bool, true}
+use Rattle.std.proofs.Common.{false, drop, get_or, length, List, [], ◌∷◌, map, replicate, take}
+use Rattle.std.proofs.Common.{Option, Some, None, refl, sym, ap, subst, ◌∙◌, arith, length-drop}
 use Rattle.std.proofs.lemmas.List.{length-replicate, length-take-le}
 use Rattle.std.proofs.lemmas.List.Elements.{All-cons, All-drop, All-nil, All-replicate, All-take}
 use Rattle.std.proofs.lemmas.List.FromFn.{length-map-range_with_len}
@@ -13,7 +15,9 @@ use Rattle.bn_model.specs.Opening.{Image, opening, opening_harts, page_of, pages
 use Rattle.bn_model.specs.Owners.{claims}
 use Rattle.bn_model.specs.Records.{AreRecords}
 use Rattle.bn_model.specs.Rows.{enclaves, owners}
-use Rattle.bn_model.specs.Soundness.{AreAsleep, AreStates, AreSwitched, Ends, HasClaims, HasFewAcceptances, HasIds, HasModeOf, HaveModes, IsHart, IsPc, IsRow, IsSound, caller_at, module_of, state_at}
+use Rattle.bn_model.specs.Soundness.{AreAsleep, AreStates, AreSwitched, Ends, HasClaims}
+use Rattle.bn_model.specs.Soundness.{HasFewAcceptances, HasIds, HasModeOf, HaveModes, IsHart, IsPc}
+use Rattle.bn_model.specs.Soundness.{IsRow, IsSound, caller_at, module_of, state_at}
 use Rattle.bn_model.specs.SoundnessLaws.{FitsOpening}
 use Rattle.bn_model.specs.State.{Hart, State, opening_hart, resting_hart, untrusted}
 use Rattle.bn_model.proofs.PagesKept.{IsPage}
@@ -22,7 +26,13 @@ use Rattle.bn_model.proofs.SegmentFacts.{all_of_map}
 
 no-ids : HasIds (enclaves []) 1
 unfolding enclaves
-no-ids = record { few = omega arith; ascend = tt; first = omega arith; last = omega arith; distinct = tt }
+no-ids = record {
+  few = omega arith;
+  ascend = tt;
+  first = omega arith;
+  last = omega arith;
+  distinct = tt;
+}
 
 no-claims : (ram : ℕ) → HasClaims (enclaves []) (owners []) ram
 unfolding enclaves owners claims
@@ -65,7 +75,8 @@ IsAsleep hart = hart.started ≡ false → hart.current ≡ untrusted
 no-one-asleep : (harts entry : ℕ) → AreAsleep (opening_harts harts entry)
 unfolding IsAsleep
 no-one-asleep harts entry =
-    All-cons IsAsleep (opening_hart entry) (replicate (harts - 1) resting_hart) (λ e. refl) (All-replicate IsAsleep (harts - 1) resting_hart (λ e. refl))
+    All-cons IsAsleep (opening_hart entry) (replicate (harts - 1) resting_hart) (λ e. refl)
+    (All-replicate IsAsleep (harts - 1) resting_hart (λ e. refl))
 
 resting-is : IsHart 0 resting_hart
 resting-is = record {
@@ -89,36 +100,45 @@ opening-is entry p = record {
 
 opening-harts : (harts entry : ℕ) → IsPc entry → All (IsHart 0) (opening_harts harts entry)
 opening-harts harts entry p =
-    All-cons (IsHart 0) (opening_hart entry) (replicate (harts - 1) resting_hart) (opening-is entry p) (All-replicate (IsHart 0) (harts - 1) resting_hart resting-is)
+    All-cons (IsHart 0) (opening_hart entry) (replicate (harts - 1) resting_hart)
+    (opening-is entry p) (All-replicate (IsHart 0) (harts - 1) resting_hart resting-is)
 
 opening-modes : (harts : List Hart) → HaveModes harts []
 opening-modes harts k d lt = tt
 
 opening-count : (harts entry : ℕ) → 1 ≤ harts → length (opening_harts harts entry) ≡ harts
 opening-count harts entry least =
-    let rest : length (replicate (harts - 1) resting_hart) ≡ harts - 1 = length-replicate (harts - 1) resting_hart in
+    let rest : length (replicate (harts - 1) resting_hart) ≡ harts - 1 =
+    length-replicate (harts - 1) resting_hart in
     omega arith
 
-page-is : (count : ℕ) (bytes : List ℕ) → length bytes ≡ 4096 * count → All (λ byte. byte < 2 ^ 8) bytes → (g : ℕ) → g < count → IsPage (page_of bytes g)
+page-is : (count : ℕ) (bytes : List ℕ) → length bytes ≡ 4096 * count
+    → All (λ byte. byte < 2 ^ 8) bytes → (g : ℕ) → g < count → IsPage (page_of bytes g)
 page-is count bytes long small g below =
-    let rest : length (drop (4096 * g) bytes) ≡ length bytes - 4096 * g = length-drop (4096 * g) bytes in (
+    let rest : length (drop (4096 * g) bytes) ≡ length bytes - 4096 * g =
+    length-drop (4096 * g) bytes in (
       length-take-le 4096 (drop (4096 * g) bytes) (omega arith),
-      All-take (λ byte. byte < 2 ^ 8) 4096 (drop (4096 * g) bytes) (All-drop (λ byte. byte < 2 ^ 8) (4096 * g) bytes small),
+      All-take (λ byte. byte < 2 ^ 8) 4096 (drop (4096 * g) bytes)
+          (All-drop (λ byte. byte < 2 ^ 8) (4096 * g) bytes small),
     )
 
 pages-size : (count : ℕ) (bytes : List ℕ) → length (pages_of count bytes) ≡ count
 unfolding pages_of
 pages-size count bytes = length-map-range_with_len (page_of bytes) 0 count
 
-pages-are : (count : ℕ) (bytes : List ℕ) → length bytes ≡ 4096 * count → All (λ byte. byte < 2 ^ 8) bytes → All IsPage (pages_of count bytes)
+pages-are : (count : ℕ) (bytes : List ℕ) → length bytes ≡ 4096 * count
+    → All (λ byte. byte < 2 ^ 8) bytes → All IsPage (pages_of count bytes)
 unfolding pages_of
-pages-are count bytes long small = all_of_map IsPage (page_of bytes) count (page-is count bytes long small)
+pages-are count bytes long small =
+    all_of_map IsPage (page_of bytes) count (page-is count bytes long small)
 
-pub opening-sound : (pages harts : ℕ) (image : Image) (records : List Record) → FitsOpening pages harts image records → IsSound (opening pages harts image records)
+pub opening-sound : (pages harts : ℕ) (image : Image) (records : List Record)
+    → FitsOpening pages harts image records → IsSound (opening pages harts image records)
 unfolding opening
 opening-sound pages harts image records fits =
     let size : length (pages_of pages image.bytes) ≡ pages = pages-size pages image.bytes in
-    let count : length (opening_harts harts image.entry) ≡ harts = opening-count harts image.entry fits.some_harts in
+    let count : length (opening_harts harts image.entry) ≡ harts =
+    opening-count harts image.entry fits.some_harts in
     let some : 1 ≤ harts = fits.some_harts in
     let few : harts ≤ 4 = fits.few_harts in
     let some_ram : 1 ≤ pages = fits.some_pages in

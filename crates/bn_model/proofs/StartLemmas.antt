@@ -1,6 +1,11 @@
 -- How a module starts on a hart.
-use Rattle.std.proofs.Common.{◌≡◌, ◌≢◌, ℕ, zero, suc, ◌+◌, ◌-◌, ◌<◌, ◌≤◌, ◌==◌, ◌&&◌, ◌⊎◌, Bool, true, false, List, [], ◌∷◌, ◌++◌, drop, length, get_or, replicate, set, take, Option, Some, None, inl, inr, refl, sym, ap, subst, cond, ◌∙◌, arith, eqb-true, eq-eqb, ne_eqb}
-use Rattle.std.proofs.lemmas.List.{get_or-append-add, get_or-drop, get_or-replicate, get_or-set_other, get_or-set_same, get_or-take, get_or_append_left, length-drop, length-set, length-take-le}
+use Rattle.std.proofs.Common.{◌≡◌, ◌≢◌, ℕ, zero, suc, ◌+◌, ◌-◌, ◌<◌, ◌≤◌, ◌==◌, ◌&&◌, ◌⊎◌, Bool}
+use Rattle.std.proofs.Common.{true, false, List, [], ◌∷◌, ◌++◌, drop, length, get_or, replicate}
+use Rattle.std.proofs.Common.{set, take, Option, Some, None, inl, inr, refl, sym, ap, subst, cond}
+use Rattle.std.proofs.Common.{◌∙◌, arith, eqb-true, eq-eqb, ne_eqb}
+use Rattle.std.proofs.lemmas.List.{get_or-append-add, get_or-drop, get_or-replicate}
+use Rattle.std.proofs.lemmas.List.{get_or-set_other, get_or-set_same, get_or-take}
+use Rattle.std.proofs.lemmas.List.{get_or_append_left, length-drop, length-set, length-take-le}
 use Rattle.std.proofs.lemmas.List.Elements.{All-get_or}
 use Rattle.std.proofs.lemmas.Option.{none-some, same_Some}
 use Rattle.std.specs.List.{list_any}
@@ -19,10 +24,16 @@ use Rattle.bn_model.specs.Deciding.{caller_of, decision_of, decision_of_hart, is
 use Rattle.bn_model.specs.Decision.{Decision, Rest, Trap, Deny, Start, Send, Call, Return, Resume}
 use Rattle.bn_model.specs.Each.{each}
 use Rattle.bn_model.specs.Rows.{enclaves, has_id, row_of, saved_of}
-use Rattle.bn_model.specs.Soundness.{Ascend, Has, IsHart, IsRow, IsSound, caller_at, caller_if_some, state_at, state_if_some}
-use Rattle.bn_model.specs.State.{Hart, State, answer_registers, argument_registers, hart_after_answer, hart_after_call, hart_after_resume, hart_after_return, hart_after_stop, hart_after_trap, hart_at, hart_in, resting_hart, started_hart}
-use Rattle.bn_model.specs.Stepping.{after_trap_in, after_turn, hart_by_mask, hart_if_named, page_address, step}
-use Rattle.bn_model.specs.Switching.{frame_of_caller, is_code_at, is_mode, is_stopped, is_stopped_at}
+use Rattle.bn_model.specs.Soundness.{Ascend, Has, IsHart, IsRow, IsSound, caller_at, caller_if_some}
+use Rattle.bn_model.specs.Soundness.{state_at, state_if_some}
+use Rattle.bn_model.specs.State.{Hart, State, answer_registers, argument_registers}
+use Rattle.bn_model.specs.State.{hart_after_answer, hart_after_call, hart_after_resume}
+use Rattle.bn_model.specs.State.{hart_after_return, hart_after_stop, hart_after_trap, hart_at}
+use Rattle.bn_model.specs.State.{hart_in, resting_hart, started_hart}
+use Rattle.bn_model.specs.Stepping.{after_trap_in, after_turn, hart_by_mask, hart_if_named}
+use Rattle.bn_model.specs.Stepping.{page_address, step}
+use Rattle.bn_model.specs.Switching.{frame_of_caller, is_code_at, is_mode, is_stopped}
+use Rattle.bn_model.specs.Switching.{is_stopped_at}
 use Rattle.bn_model.specs.SwitchingLaws.{IsBack, IsStart, ModulesStart}
 use Rattle.bn_model.specs.Walking.{access_fault}
 use Rattle.bn_model.proofs.Evidence.{Calls, Holds, Resumes, Returns, holds}

@@ -5,13 +5,17 @@ use Rattle.bn_types.specs.declared.event.Event.{Event}
 use Rattle.bn_types.specs.declared.event.Event.TheVariants.{Turn, Key, Poke, Peek}
 use Rattle.bn_types.specs.declared.cause.Cause.{Cause}
 use Rattle.bn_model.specs.Deciding.{decision_of}
-use Rattle.bn_model.specs.Decision.{Decision, Rest, Trap, Deny, Next, Set, Jump, Store, Csr, ReturnFromTrap, Put, Answer, ShutDown, SetTimer, TakeKey, NoKey, Start, Send, Refuse, Launch, Call, Return, Resume, Evict, Tell, SetWord}
+use Rattle.bn_model.specs.Decision.{Decision, Rest, Trap, Deny, Next, Set, Jump, Store, Csr}
+use Rattle.bn_model.specs.Decision.{ReturnFromTrap, Put, Answer, ShutDown, SetTimer, TakeKey, NoKey}
+use Rattle.bn_model.specs.Decision.{Start, Send, Refuse, Launch, Call, Return, Resume, Evict, Tell}
+use Rattle.bn_model.specs.Decision.{SetWord}
 use Rattle.bn_model.specs.Each.{each}
 use Rattle.bn_model.specs.State.{Hart, State, hart_after_answer, hart_at, with_hart}
 use Rattle.bn_model.specs.Stepping.{step, after_trap_in, after_turn, hart_by_mask}
 use Rattle.bn_model.specs.Walking.{access_fault}
 
-length-each : {X Y : Type 0} (change : ℕ → X → Y) (i : ℕ) (xs : List X) → length (each change i xs) ≡ length xs
+length-each : {X Y : Type 0} (change : ℕ → X → Y) (i : ℕ) (xs : List X)
+    → length (each change i xs) ≡ length xs
 length-each change i [] = refl
 length-each change i (x ∷ xs) = ap suc (length-each change (suc i) xs)
 
@@ -20,10 +24,12 @@ harts_after_trap : (current : ℕ) (s : State) (h : ℕ) (hart : Hart) (cause : 
 harts_after_trap zero s h hart cause value = length-set s.harts h _
 harts_after_trap (suc m) s h hart cause value = length-set s.harts h _
 
-harts_after_turn : (s : State) (h : ℕ) (hart : Hart) (d : Decision) → length (after_turn s h hart d).harts ≡ length s.harts
+harts_after_turn : (s : State) (h : ℕ) (hart : Hart) (d : Decision)
+    → length (after_turn s h hart d).harts ≡ length s.harts
 harts_after_turn s h hart Rest = refl
 harts_after_turn s h hart (Trap cause value) = harts_after_trap hart.current.0 s h hart cause value
-harts_after_turn s h hart (Deny kind va) = harts_after_trap hart.current.0 s h hart (access_fault kind) va
+harts_after_turn s h hart (Deny kind va) =
+    harts_after_trap hart.current.0 s h hart (access_fault kind) va
 harts_after_turn s h hart Next = length-set s.harts h _
 harts_after_turn s h hart (Set rd value) = length-set s.harts h _
 harts_after_turn s h hart (Jump target rd link) = length-set s.harts h _
@@ -39,7 +45,8 @@ harts_after_turn s h hart NoKey = length-set s.harts h _
 harts_after_turn s h hart (Start target pc opaque) =
     length-set (with_hart s h (hart_after_answer hart 0)).harts target _ ∙ length-set s.harts h _
 harts_after_turn s h hart (Send mask) =
-    length-each (hart_by_mask mask) 0 (with_hart s h (hart_after_answer hart 0)).harts ∙ length-set s.harts h _
+    length-each (hart_by_mask mask) 0 (with_hart s h (hart_after_answer hart 0)).harts
+    ∙ length-set s.harts h _
 harts_after_turn s h hart (Refuse rd request code) = length-set s.harts h _
 harts_after_turn s h hart (Launch rd judged) = length-set s.harts h _
 harts_after_turn s h hart (Call rd callee entry) = length-set s.harts h _
@@ -62,9 +69,12 @@ clock_after_trap : (current : ℕ) (s : State) (h : ℕ) (hart : Hart) (cause : 
 clock_after_trap zero s h hart cause value = refl
 clock_after_trap (suc m) s h hart cause value = refl
 
-clock_after_turn : (s : State) (h : ℕ) (hart : Hart) (d : Decision) → (after_turn s h hart d).clock ≡ s.clock + 1
-clock_after_turn s h hart (Trap cause value) = ap (λ n. n + 1) (clock_after_trap hart.current.0 s h hart cause value)
-clock_after_turn s h hart (Deny kind va) = ap (λ n. n + 1) (clock_after_trap hart.current.0 s h hart (access_fault kind) va)
+clock_after_turn : (s : State) (h : ℕ) (hart : Hart) (d : Decision)
+    → (after_turn s h hart d).clock ≡ s.clock + 1
+clock_after_turn s h hart (Trap cause value) =
+    ap (λ n. n + 1) (clock_after_trap hart.current.0 s h hart cause value)
+clock_after_turn s h hart (Deny kind va) =
+    ap (λ n. n + 1) (clock_after_trap hart.current.0 s h hart (access_fault kind) va)
 clock_after_turn s h hart d = refl
 
 -- every event is counted by the clock

@@ -1,5 +1,6 @@
 -- What a trap out of a module leaves on the hart.
-use Rattle.std.proofs.Common.{◌≡◌, ℕ, zero, suc, ◌<◌, ◌≤◌, ◌⊎◌, List, length, Some, option_map, inl, inr, refl, sym, ap, subst, ◌∙◌}
+use Rattle.std.proofs.Common.{◌≡◌, ℕ, zero, suc, ◌<◌, ◌≤◌, ◌⊎◌, List, length, Some, option_map, inl}
+use Rattle.std.proofs.Common.{inr, refl, sym, ap, subst, ◌∙◌}
 use Rattle.std.proofs.lemmas.Bool.{cases_lt}
 use Rattle.std.proofs.lemmas.List.{get_or-set_same, get_or_past}
 use Rattle.bn_types.specs.declared.cause.Cause.{Cause}
@@ -7,7 +8,8 @@ use Rattle.bn_types.specs.declared.row.Row.{Row}
 use Rattle.bn_model.specs.Deciding.{decision_of}
 use Rattle.bn_model.specs.Decision.{Decision, Trap, Deny}
 use Rattle.bn_model.specs.Rows.{row_of, with_row}
-use Rattle.bn_model.specs.State.{frame_of, Hart, State, hart_after_stop, hart_after_trap, hart_at, hart_in, resting_hart}
+use Rattle.bn_model.specs.State.{frame_of, Hart, State, hart_after_stop, hart_after_trap, hart_at}
+use Rattle.bn_model.specs.State.{hart_in, resting_hart}
 use Rattle.bn_model.specs.Stepping.{after_trap_in, after_turn, page_address, step}
 use Rattle.bn_model.specs.Switching.{row_after_stop}
 use Rattle.bn_model.specs.SwitchingLaws.{IsCleared, IsTrap, StopsClear, StopsSave}

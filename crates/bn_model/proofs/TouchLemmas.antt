@@ -1,5 +1,8 @@
 -- Whom the pages belong to that an event touches.
-use Rattle.std.proofs.Common.{◌≡◌, ◌≢◌, ℕ, zero, suc, ◌==◌, ◌⊎◌, Bool, true, false, not, find, flat_map, List, [], ◌∷◌, ◌++◌, map, Option, Some, None, is_some, option_map, unwrap_or, Result, Ok, Err, slice_get, inl, inr, refl, sym, ap, subst, ◌∙◌, eqb-true, eq-eqb}
+use Rattle.std.proofs.Common.{◌≡◌, ◌≢◌, ℕ, zero, suc, ◌==◌, ◌⊎◌, Bool, true, false, not, find}
+use Rattle.std.proofs.Common.{flat_map, List, [], ◌∷◌, ◌++◌, map, Option, Some, None, is_some}
+use Rattle.std.proofs.Common.{option_map, unwrap_or, Result, Ok, Err, slice_get, inl, inr, refl}
+use Rattle.std.proofs.Common.{sym, ap, subst, ◌∙◌, eqb-true, eq-eqb}
 use Rattle.std.proofs.lemmas.Bool.{and_parts, both_ways, false_from_ne_true, not-true}
 use Rattle.std.proofs.lemmas.Option.{none-some, same_Some}
 use Rattle.std.specs.List.{list_all, list_any}
@@ -32,24 +35,37 @@ use Rattle.bn_types.specs.declared.width.Width.TheVariants.{B4}
 use Rattle.bn_model.specs.declared.owner.Owner.{Owner}
 use Rattle.bn_model.specs.declared.place.Place.{Place}
 use Rattle.bn_model.specs.Accessing.{access, is_aligned}
-use Rattle.bn_model.specs.Admission.{admits, admits_by, declaration, declared_by, has_right, is_at, is_backed, may_leave}
+use Rattle.bn_model.specs.Admission.{admits, admits_by, declaration, declared_by, has_right, is_at}
+use Rattle.bn_model.specs.Admission.{is_backed, may_leave}
 use Rattle.bn_model.specs.Bits.{is_set}
 use Rattle.bn_model.specs.Deciding.{asked_of}
-use Rattle.bn_model.specs.Decision.{Asked, Nothing, Interrupted, Unfetched, Resuming, Unknown, Acting}
-use Rattle.bn_model.specs.Launching.{address_of_page, decl_of, decls_of, decls_unless_refused, free_page, have_alias, is_owned_state, is_reached, is_text_address, page_if_free, page_in_ram, page_of_address, page_of_leaf, page_if_in_ram, refused_unless, takes_owned, text_at, text_if_mapped}
+use Rattle.bn_model.specs.Decision.{Asked, Nothing, Interrupted, Unfetched, Resuming, Unknown}
+use Rattle.bn_model.specs.Decision.{Acting}
+use Rattle.bn_model.specs.Launching.{address_of_page, decl_of, decls_of, decls_unless_refused}
+use Rattle.bn_model.specs.Launching.{free_page, have_alias, is_owned_state, is_reached}
+use Rattle.bn_model.specs.Launching.{is_text_address, page_if_free, page_in_ram, page_of_address}
+use Rattle.bn_model.specs.Launching.{page_of_leaf, page_if_in_ram, refused_unless, takes_owned}
+use Rattle.bn_model.specs.Launching.{text_at, text_if_mapped}
 use Rattle.bn_model.specs.Memory.{readable_if, readable_page, visible}
-use Rattle.bn_model.specs.Owners.{claim_by, claims, claims_by, is_live, is_module, is_on, is_own, is_owned}
+use Rattle.bn_model.specs.Owners.{claim_by, claims, claims_by, is_live, is_module, is_on, is_own}
+use Rattle.bn_model.specs.Owners.{is_owned}
 use Rattle.bn_model.specs.Rows.{has_id, owner_of, owners, row_of}
 use Rattle.bn_model.specs.Soundness.{Has}
 use Rattle.bn_model.specs.State.{Hart, State, asker, hart_at, memory, value_of}
 use Rattle.bn_model.specs.Stepping.{seen_page}
-use Rattle.bn_model.specs.Touching.{Touch, direct, launch_if_kernel, measured_if, touch, touch_of_access, touch_of_act, touch_of_asked, touch_of_decl, touch_of_decls, touch_of_device, touch_of_fetch, touch_of_launch, touch_of_page, touch_of_place, touch_of_secure, touch_of_segment, touch_of_text, touch_of_walk, walk_if}
-use Rattle.bn_model.specs.TouchingLaws.{IsDeclared, IsLive, IsUnowned, TouchesAreAdmitted, right_number}
+use Rattle.bn_model.specs.Touching.{Touch, direct, launch_if_kernel, measured_if, touch}
+use Rattle.bn_model.specs.Touching.{touch_of_access, touch_of_act, touch_of_asked, touch_of_decl}
+use Rattle.bn_model.specs.Touching.{touch_of_decls, touch_of_device, touch_of_fetch}
+use Rattle.bn_model.specs.Touching.{touch_of_launch, touch_of_page, touch_of_place, touch_of_secure}
+use Rattle.bn_model.specs.Touching.{touch_of_segment, touch_of_text, touch_of_walk, walk_if}
+use Rattle.bn_model.specs.TouchingLaws.{IsDeclared, IsLive, IsUnowned, TouchesAreAdmitted}
+use Rattle.bn_model.specs.TouchingLaws.{right_number}
 use Rattle.bn_model.specs.Walking.{Landing, WalkFault, guest_page, leaf_of, tables_read, vpn_of}
 use Rattle.bn_model.proofs.AccessLemmas.{access-cases}
 use Rattle.bn_model.proofs.ClaimLemmas.{three-true}
 use Rattle.bn_model.proofs.EachLemmas.{get-each}
-use Rattle.bn_model.proofs.MembershipLemmas.{all-has, append-has, flat_map-has, has-any, has-find, has-flat_map, has-map, list_all-has, map-has}
+use Rattle.bn_model.proofs.MembershipLemmas.{all-has, append-has, flat_map-has, has-any, has-find}
+use Rattle.bn_model.proofs.MembershipLemmas.{has-flat_map, has-map, list_all-has, map-has}
 use Rattle.bn_model.proofs.RowLemmas.{is_live-row_of, row_of-id}
 use Rattle.bn_model.proofs.TestLemmas.{find-map, find-passes}
 use Rattle.bn_model.proofs.WalkFacts.{walked-free}

@@ -1,5 +1,7 @@
 -- Runs from the state without the secrets of a resting module.
-use Rattle.std.proofs.Common.{◌≡◌, ℕ, zero, suc, ◌<◌, ◌==◌, ◌&&◌, ◌||◌, Bool, true, false, not, List, [], ◌∷◌, ◌++◌, length, map, set, Option, None, refl, sym, ap, ap₂, subst, ◌∙◌, append_assoc, arith, ne_eqb}
+use Rattle.std.proofs.Common.{◌≡◌, ℕ, zero, suc, ◌<◌, ◌==◌, ◌&&◌, ◌||◌, Bool, true, false, not}
+use Rattle.std.proofs.Common.{List, [], ◌∷◌, ◌++◌, length, map, set, Option, None, refl, sym, ap}
+use Rattle.std.proofs.Common.{ap₂, subst, ◌∙◌, append_assoc, arith, ne_eqb}
 use Rattle.std.proofs.lemmas.List.{map-append}
 use Rattle.std.proofs.lemmas.List.Folds.{list_any-append}
 use Rattle.std.specs.List.{list_any}
@@ -12,7 +14,8 @@ use Rattle.bn_types.specs.declared.mod_id.ModId.{ModId}
 use Rattle.bn_types.specs.declared.row.Row.{Row}
 use Rattle.bn_model.specs.declared.owner.Owner.{Owner}
 use Rattle.bn_model.specs.Blanking.{blank, blank_if, blank_row, blanked, rests, runs}
-use Rattle.bn_model.specs.BlankingLaws.{AllFit, RestingHidesSecrets, RestsIn, RestsOn, ZeroingChangesNothing}
+use Rattle.bn_model.specs.BlankingLaws.{AllFit, RestingHidesSecrets, RestsIn, RestsOn}
+use Rattle.bn_model.specs.BlankingLaws.{ZeroingChangesNothing}
 use Rattle.bn_model.specs.Deciding.{decision_of, decision_of_hart}
 use Rattle.bn_model.specs.Decision.{Decision, Trap, Deny, Launch, Call, Return, Resume, Evict}
 use Rattle.bn_model.specs.Evicting.{evicted_rows, is_among, rows_left}
@@ -22,7 +25,8 @@ use Rattle.bn_model.specs.Running.{Blind, Run, run, state_before}
 use Rattle.bn_model.specs.RunningLaws.{run_on}
 use Rattle.bn_model.specs.SoundnessLaws.{KeepsSound}
 use Rattle.bn_model.specs.Soundness.{IsSound}
-use Rattle.bn_model.specs.State.{Hart, State, frame_of, hart_after_resume, hart_after_return, hart_at}
+use Rattle.bn_model.specs.State.{Hart, State, frame_of, hart_after_resume, hart_after_return}
+use Rattle.bn_model.specs.State.{hart_at}
 use Rattle.bn_model.specs.Stepping.{Fits, after_trap_in, after_turn, frame_of_call, lines, step}
 use Rattle.bn_model.specs.Switching.{frame_of_caller, row_after_resume, row_after_stop}
 use Rattle.bn_model.specs.Walking.{access_fault}

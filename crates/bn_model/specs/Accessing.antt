@@ -2,7 +2,8 @@
 -- its width, the walk of the guest's tables, RAM, the rule of admission (Privileged ISA,
 -- "Supervisor Cause Register", "Virtual Address Translation Process"; the order is this project's
 -- own).
-use Rattle.std.specs.Prelude.{ℕ, ◌*◌, ◌+◌, ◌%◌, ◌==◌, Bool, true, false, nat_lt, List, length, slice_set, Option, Some, None, Result, Ok, Err}
+use Rattle.std.specs.Prelude.{ℕ, ◌*◌, ◌+◌, ◌%◌, ◌==◌, Bool, true, false, nat_lt, List, length}
+use Rattle.std.specs.Prelude.{slice_set, Option, Some, None, Result, Ok, Err}
 use Rattle.bn_types.specs.Numbers.{bytes_of, number_at, page_at, with_number}
 use Rattle.bn_types.specs.declared.asker.Asker.{Asker}
 use Rattle.bn_types.specs.declared.cause.Cause.{Cause}
@@ -13,7 +14,8 @@ use Rattle.bn_types.specs.declared.kind.Kind.TheVariants.{Fetch, Load, Store}
 use Rattle.bn_types.specs.declared.width.Width.{Width}
 use Rattle.bn_model.specs.declared.place.Place.{Place}
 use Rattle.bn_model.specs.Admission.{admits}
-use Rattle.bn_model.specs.Causes.{instruction_address_misaligned, load_address_misaligned, store_address_misaligned}
+use Rattle.bn_model.specs.Causes.{instruction_address_misaligned, load_address_misaligned}
+use Rattle.bn_model.specs.Causes.{store_address_misaligned}
 use Rattle.bn_model.specs.Memory.{Memory, visible}
 use Rattle.bn_model.specs.Walking.{Landing, access_fault, guest_page, tables_read, vpn_of, walk_of}
 

@@ -1,6 +1,7 @@
 -- The rule of admission: which accesses a live module's declarations allow (after Bastion's shadow
 -- access check).
-use Rattle.std.specs.Prelude.{ℕ, zero, suc, ◌==◌, Bool, true, false, not, ◌&&◌, find, List, Option, Some, None}
+use Rattle.std.specs.Prelude.{ℕ, zero, suc, ◌==◌, Bool, true, false, not, ◌&&◌, find, List, Option}
+use Rattle.std.specs.Prelude.{Some, None}
 use Rattle.bn_types.specs.declared.decl.Decl.{Decl}
 use Rattle.bn_types.specs.declared.kind.Kind.{Kind}
 use Rattle.bn_types.specs.declared.kind.Kind.TheVariants.{Fetch, Load, Store}

@@ -1,5 +1,6 @@
 -- What a turn of a hart comes to: first what is asked of the hart, then what comes of that.
-use Rattle.std.specs.Prelude.{ℕ, zero, suc, ◌*◌, ◌==◌, Bool, true, false, nat_lt, find, length, List, [], ◌∷◌, map, Option, Some, None, Result, Ok, Err}
+use Rattle.std.specs.Prelude.{ℕ, zero, suc, ◌*◌, ◌==◌, Bool, true, false, nat_lt, find, length}
+use Rattle.std.specs.Prelude.{List, [], ◌∷◌, map, Option, Some, None, Result, Ok, Err}
 use Rattle.std.specs.List.{list_any}
 use Rattle.bn_types.specs.Numbers.{number_at}
 use Rattle.bn_types.specs.declared.act.Act.{Act}
@@ -41,13 +42,18 @@ use Rattle.bn_model.specs.Acting.{act_of, load_value}
 use Rattle.bn_model.specs.Admission.{declaration}
 use Rattle.bn_model.specs.Causes.{breakpoint, environment_call_from_u}
 use Rattle.bn_model.specs.CsrFile.{Counters, CsrDone, csr_done}
-use Rattle.bn_model.specs.Decision.{Asked, Nothing, Interrupted, Unfetched, Resuming, Unknown, Acting, Decision, Rest, Trap, Deny, Next, Set, Jump, Store, Csr, ReturnFromTrap, Put, Answer, ShutDown, SetTimer, TakeKey, NoKey, Start, Send, Refuse, Launch, Call, Return, Resume, Evict, Tell, SetWord}
+use Rattle.bn_model.specs.Decision.{Asked, Nothing, Interrupted, Unfetched, Resuming, Unknown}
+use Rattle.bn_model.specs.Decision.{Acting, Decision, Rest, Trap, Deny, Next, Set, Jump, Store, Csr}
+use Rattle.bn_model.specs.Decision.{ReturnFromTrap, Put, Answer, ShutDown, SetTimer, TakeKey, NoKey}
+use Rattle.bn_model.specs.Decision.{Start, Send, Refuse, Launch, Call, Return, Resume, Evict, Tell}
+use Rattle.bn_model.specs.Decision.{SetWord}
 use Rattle.bn_model.specs.Decoding.{insn_of}
 use Rattle.bn_model.specs.Evicting.{evicted_rows}
 use Rattle.bn_model.specs.Hypervisor.{ask_of}
 use Rattle.bn_model.specs.Interrupts.{interrupt_of, wires_of}
 use Rattle.bn_model.specs.Launching.{judgement, zero_digest}
-use Rattle.bn_model.specs.Legality.{illegal, inside_only, kernel_only, outside_only, supervisor_only}
+use Rattle.bn_model.specs.Legality.{illegal, inside_only, kernel_only, outside_only}
+use Rattle.bn_model.specs.Legality.{supervisor_only}
 use Rattle.bn_model.specs.Memory.{visible}
 use Rattle.bn_model.specs.Owners.{is_live}
 use Rattle.bn_model.specs.Records.{get_word, set_refusal, set_word}

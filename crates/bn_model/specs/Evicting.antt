@@ -1,5 +1,6 @@
 -- Eviction: which rows go, and what becomes of their pages (this project's own rules).
-use Rattle.std.specs.Prelude.{ℕ, zero, suc, Bool, true, false, not, ◌&&◌, List, [], ◌∷◌, length, Option, Some, None}
+use Rattle.std.specs.Prelude.{ℕ, zero, suc, Bool, true, false, not, ◌&&◌, List, [], ◌∷◌, length}
+use Rattle.std.specs.Prelude.{Option, Some, None}
 use Rattle.std.specs.List.{filter, list_any}
 use Rattle.bn_types.specs.Numbers.{zero_page}
 use Rattle.bn_types.specs.declared.row.Row.{Row}

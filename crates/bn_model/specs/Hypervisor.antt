@@ -1,6 +1,7 @@
 -- Calls to the hypervisor: ECALL in mode S of the untrusted world (this project's table, after the
 -- SBI and its legacy calls).
-use Rattle.std.specs.Prelude.{ℕ, ◌+◌, ◌-◌, ◌%◌, ◌^◌, ◌==◌, Bool, true, false, nat_le, nat_lt, not, ◌&&◌, ◌||◌, if◌then◌else◌, List, slice_index, slice_index_or}
+use Rattle.std.specs.Prelude.{ℕ, ◌+◌, ◌-◌, ◌%◌, ◌^◌, ◌==◌, Bool, true, false, nat_le, nat_lt, not}
+use Rattle.std.specs.Prelude.{◌&&◌, ◌||◌, if◌then◌else◌, List, slice_index, slice_index_or}
 use Rattle.std.specs.List.{list_all, range_with_len}
 use Rattle.bn_types.specs.declared.regs.Regs.{Regs}
 use Rattle.bn_types.specs.declared.sbi_ask.SbiAsk.{SbiAsk}

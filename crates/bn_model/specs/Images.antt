@@ -1,11 +1,16 @@
 -- Image files: raw ones, and ELF files of 64 bits (System V ABI, "ELF Header" and "Program
 -- Header").
-use Rattle.std.specs.Prelude.{ℕ, zero, suc, ◌+◌, ◌-◌, ◌*◌, ◌%◌, ◌==◌, Bool, true, false, ◌&&◌, not, nat_eq, nat_le, List, [], ◌∷◌, ◌++◌, drop, length, replicate, take, Result, Ok, Err}
+use Rattle.std.specs.Prelude.{ℕ, zero, suc, ◌+◌, ◌-◌, ◌*◌, ◌%◌, ◌==◌, Bool, true, false, ◌&&◌, not}
+use Rattle.std.specs.Prelude.{nat_eq, nat_le, List, [], ◌∷◌, ◌++◌, drop, length, replicate, take}
+use Rattle.std.specs.Prelude.{Result, Ok, Err}
 use Rattle.std.specs.List.{list_any, starts_with}
 use Rattle.bn_types.specs.Numbers.{number_at}
 use Rattle.bn_types.specs.declared.image_fault.ImageFault.{ImageFault}
 use Rattle.bn_types.specs.declared.image_sort.ImageSort.{ImageSort}
-use Rattle.bn_types.specs.declared.image_sort.ImageSort.TheVariants.{Long, Empty, Short, Class, Order, Kind, Machine, Headers, Sizes, Bytes, Range, Nothing, Entry}
+use Rattle.bn_types.specs.declared.image_sort.ImageSort.TheVariants.{Long, Empty, Short, Class}
+use Rattle.bn_types.specs.declared.image_sort.ImageSort.TheVariants.{Order, Kind, Machine, Headers}
+use Rattle.bn_types.specs.declared.image_sort.ImageSort.TheVariants.{Sizes, Bytes, Range, Nothing}
+use Rattle.bn_types.specs.declared.image_sort.ImageSort.TheVariants.{Entry}
 use Rattle.bn_types.specs.declared.width.Width.TheVariants.{B1, B2, B4, B8}
 
 -- ---- tests, in order
@@ -18,7 +23,8 @@ test true what at = Ok tt
 test false what at = Err (fault what at)
 
 infixl 10 ◌>>=◌
-abbrev pub ◌>>=◌ : {A B : Type 0} → Result A ImageFault → (A → Result B ImageFault) → Result B ImageFault
+abbrev pub ◌>>=◌ : {A B : Type 0} → Result A ImageFault → (A → Result B ImageFault)
+    → Result B ImageFault
 Ok value >>= next = next value
 Err fault >>= next = Err fault
 
@@ -43,7 +49,8 @@ head_checked file =
     >>= (λ c. test (number_at B2 file 16 == 2) Kind 16
     >>= (λ d. test (number_at B2 file 18 == 243) Machine 18
     >>= (λ e. test (number_at B2 file 54 == 56) Headers 54
-    >>= (λ f. test (nat_le (number_at B8 file 32 + 56 * number_at B2 file 56) (length file)) Headers 32))))))
+    >>= (λ f. test (nat_le (number_at B8 file 32 + 56 * number_at B2 file 56) (length file)) Headers
+    32))))))
 
 -- ---- program headers
 
@@ -82,7 +89,8 @@ segment_checked size len place header =
     >>= (λ a. test (nat_le (header.offset + header.in_file) len) Bytes (place + 8)
     >>= (λ b. test (is_in_ram size header.address header.in_memory) Range (place + 24)))
 
-abbrev pub checked_if : (counts : Bool) → (size len place : ℕ) → Header → Result (Unit {0}) ImageFault
+abbrev pub checked_if : (counts : Bool) → (size len place : ℕ) → Header
+    → Result (Unit {0}) ImageFault
 checked_if true size len place header = segment_checked size len place header
 checked_if false size len place header = Ok tt
 
@@ -102,7 +110,8 @@ all_checked size file (place ∷ places) =
 unfoldable pub with_segment : List ℕ → Header → List ℕ → List ℕ
 with_segment file header ram =
     take (header.address - ram_base) ram
-    ++ (take header.in_file (drop header.offset file) ++ replicate (header.in_memory - header.in_file) 0)
+    ++ (take header.in_file (drop header.offset file) ++
+    replicate (header.in_memory - header.in_file) 0)
     ++ drop (header.address - ram_base + header.in_memory) ram
 
 abbrev pub with_segment_if : (counts : Bool) → List ℕ → Header → List ℕ → List ℕ

@@ -1,6 +1,9 @@
 -- A launch: ten tests in their order, each over the whole segment before the next, and the module
 -- that it makes (after Bastion; the order is this project's own).
-use Rattle.std.specs.Prelude.{ℕ, ◌*◌, ◌%◌, ◌==◌, Bool, true, false, nat_le, not, ◌&&◌, ◌||◌, find, drop, flat_map, length, List, [], ◌∷◌, ◌++◌, map, replicate, slice_get, slice_index_or, take, Option, Some, None, is_some, Result, Ok, Err, unwrap_or}
+use Rattle.std.specs.Prelude.{ℕ, ◌*◌, ◌%◌, ◌==◌, Bool, true, false, nat_le, not, ◌&&◌, ◌||◌, find}
+use Rattle.std.specs.Prelude.{drop, flat_map, length, List, [], ◌∷◌, ◌++◌, map, replicate}
+use Rattle.std.specs.Prelude.{slice_get, slice_index_or, take, Option, Some, None, is_some, Result}
+use Rattle.std.specs.Prelude.{Ok, Err, unwrap_or}
 use Rattle.std.specs.List.{list_all, list_any, range_with_len}
 use Rattle.std.specs.Str.{bytes_eq}
 use Rattle.sha2.specs.Sha256.{sha256}

@@ -1,6 +1,8 @@
 -- How a line of the trace is read: a text is the pieces between its spaces, and each piece is a
 -- field exactly where it is the spelling of a value of that field.
-use Rattle.std.specs.Prelude.{ℕ, zero, suc, ℤ, pos, negsuc, ◌++◌, ◌+◌, ◌-◌, ◌^◌, ◌==◌, Bool, true, false, ◌&&◌, nat_lt, List, [], ◌∷◌, codes, drop, length, Option, Some, None, Result, Ok, Err, if◌then◌else◌}
+use Rattle.std.specs.Prelude.{ℕ, zero, suc, ℤ, pos, negsuc, ◌++◌, ◌+◌, ◌-◌, ◌^◌, ◌==◌, Bool, true}
+use Rattle.std.specs.Prelude.{false, ◌&&◌, nat_lt, List, [], ◌∷◌, codes, drop, length, Option, Some}
+use Rattle.std.specs.Prelude.{None, Result, Ok, Err, if◌then◌else◌}
 use Rattle.std.specs.Int.{from_be_bytes, w64}
 use Rattle.std.specs.List.{find, join_with_byte, list_all}
 use Rattle.std.specs.Str.{bytes_eq}
@@ -17,7 +19,9 @@ use Rattle.bn_types.specs.declared.line_fault.LineFault.{LineFault}
 use Rattle.bn_types.specs.declared.request.Request.{Request}
 use Rattle.bn_types.specs.declared.request.Request.TheVariants as request
 use Rattle.bn_model.specs.declared.head.Head.{Head}
-use Rattle.bn_model.specs.LineShapes.{Field, Decimal, Byte, Page, Word, Sha, Code, Access, Asked, Ended, ValueOf, Values, word_of, fields_of, line_of, with_parts, heads}
+use Rattle.bn_model.specs.LineShapes.{Field, Decimal, Byte, Page, Word, Sha, Code, Access, Asked}
+use Rattle.bn_model.specs.LineShapes.{Ended, ValueOf, Values, word_of, fields_of, line_of}
+use Rattle.bn_model.specs.LineShapes.{with_parts, heads}
 use Rattle.bn_model.specs.Spelling.{field_text}
 
 -- ---- what lines have a spelling
@@ -109,7 +113,8 @@ abbrev pub value_if : {A : Type 0} → Bool → A → Option A
 value_if true value = Some value
 value_if false value = None
 
-abbrev pub spelled_value : (field : Field) → List ℕ → Option (ValueOf field) → Option (ValueOf field)
+abbrev pub spelled_value : (field : Field) → List ℕ → Option (ValueOf field)
+    → Option (ValueOf field)
 spelled_value field piece None = None
 spelled_value field piece (Some value) =
     value_if (is_in field value && bytes_eq (field_text field value) piece) value
@@ -129,7 +134,8 @@ Err left >>= next = Err left
 abbrev pub bytes_left : List (List ℕ) → ℕ
 bytes_left pieces = length (join_with_byte 32 pieces)
 
-abbrev pub field_if : {A : Type 0} → Option A → List (List ℕ) → List (List ℕ) → Result (A × List (List ℕ)) ℕ
+abbrev pub field_if : {A : Type 0} → Option A → List (List ℕ) → List (List ℕ)
+    → Result (A × List (List ℕ)) ℕ
 field_if None pieces more = Err (bytes_left pieces)
 field_if (Some value) pieces more = Ok (value, more)
 

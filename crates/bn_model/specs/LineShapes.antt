@@ -7,7 +7,9 @@ use Rattle.bn_types.specs.declared.line.Line.{Line}
 use Rattle.bn_types.specs.declared.line.Line.TheVariants as line
 use Rattle.bn_types.specs.declared.request.Request.{Request}
 use Rattle.bn_model.specs.declared.head.Head.{Head}
-use Rattle.bn_model.specs.declared.head.Head.TheVariants.{Out, Deny, Stop, Trap, Launch, Call, Ret, Resume, Evict, Sset, Refuse, Start, Key, Nokey, Poke, Nopoke, Peek, Nopeek, End}
+use Rattle.bn_model.specs.declared.head.Head.TheVariants.{Out, Deny, Stop, Trap, Launch, Call, Ret}
+use Rattle.bn_model.specs.declared.head.Head.TheVariants.{Resume, Evict, Sset, Refuse, Start, Key}
+use Rattle.bn_model.specs.declared.head.Head.TheVariants.{Nokey, Poke, Nopoke, Peek, Nopeek, End}
 
 -- ---- fields
 
@@ -120,15 +122,18 @@ with_parts (line.End n w d) make = make End (n, (w, (d.0, tt)))
 abbrev pub line_of : (head : Head) → Values (fields_of head) → Line
 line_of Out told = line.Out told.0 told.1.0 told.1.1.0
 line_of Deny told =
-    line.Deny told.0 told.1.0 (record { 0 = told.1.1.0 }) told.1.1.1.0 (record { 0 = told.1.1.1.1.0 })
+    line.Deny told.0 told.1.0 (record { 0 = told.1.1.0 }) told.1.1.1.0
+    (record { 0 = told.1.1.1.1.0 })
 line_of Stop told = line.Stop told.0 told.1.0 (record { 0 = told.1.1.0 }) told.1.1.1.0
 line_of Trap told = line.Trap told.0 told.1.0 told.1.1.0 told.1.1.1.0
 line_of Launch told =
     line.Launch told.0 told.1.0 (record { 0 = told.1.1.0 }) (record { 0 = told.1.1.1.0 })
 line_of Call told =
-    line.Call told.0 told.1.0 (record { 0 = told.1.1.0 }) (record { 0 = told.1.1.1.0 }) told.1.1.1.1.0
+    line.Call told.0 told.1.0 (record { 0 = told.1.1.0 }) (record { 0 = told.1.1.1.0 })
+    told.1.1.1.1.0
 line_of Ret told =
-    line.Ret told.0 told.1.0 (record { 0 = told.1.1.0 }) (record { 0 = told.1.1.1.0 }) told.1.1.1.1.0
+    line.Ret told.0 told.1.0 (record { 0 = told.1.1.0 }) (record { 0 = told.1.1.1.0 })
+    told.1.1.1.1.0
 line_of Resume told = line.Resume told.0 told.1.0 (record { 0 = told.1.1.0 }) told.1.1.1.0
 line_of Evict told = line.Evict told.0 told.1.0 (record { 0 = told.1.1.0 }) told.1.1.1.0
 line_of Sset told = line.Sset told.0 told.1.0 (record { 0 = told.1.1.0 }) told.1.1.1.0

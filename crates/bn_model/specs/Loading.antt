@@ -1,6 +1,7 @@
 -- What the bytes of an image file come to (this project's own rules; System V ABI, "ELF
 -- Identification").
-use Rattle.std.specs.Prelude.{ℕ, ◌-◌, ◌==◌, Bool, true, false, nat_eq, nat_lt, List, [], ◌∷◌, ◌++◌, length, replicate}
+use Rattle.std.specs.Prelude.{ℕ, ◌-◌, ◌==◌, Bool, true, false, nat_eq, nat_lt, List, [], ◌∷◌, ◌++◌}
+use Rattle.std.specs.Prelude.{length, replicate}
 use Rattle.std.specs.List.{starts_with}
 use Rattle.bn_types.specs.declared.image_fault.ImageFault.{ImageFault}
 use Rattle.bn_types.specs.declared.image_sort.ImageSort.TheVariants.{Empty, Long}

@@ -1,7 +1,8 @@
 -- The nested page tables, which lead each page of the guest to a machine frame (Privileged ISA,
 -- hypervisor extension, "Guest Physical Address Translation", Sv39x4). The tables lie in frames of
 -- the machine.
-use Rattle.std.specs.Prelude.{◌≡◌, ℕ, ◌+◌, ◌*◌, ◌/◌, ◌%◌, ◌^◌, ◌<◌, ◌≤◌, Bool, true, false, nat_lt, nat_eq, List, Option, Some, None, map, length}
+use Rattle.std.specs.Prelude.{◌≡◌, ℕ, ◌+◌, ◌*◌, ◌/◌, ◌%◌, ◌^◌, ◌<◌, ◌≤◌, Bool, true, false, nat_lt}
+use Rattle.std.specs.Prelude.{nat_eq, List, Option, Some, None, map, length}
 use Rattle.std.specs.List.{range_with_len}
 use Rattle.bn_types.specs.Numbers.{number_at, page_at, zero_page}
 use Rattle.bn_types.specs.declared.frame.Frame.{Frame}

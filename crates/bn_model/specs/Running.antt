@@ -1,6 +1,7 @@
 -- A run of the flat machine: its events in order, up to the first that shuts the machine down and
 -- up to before the first that isn't built.
-use Rattle.std.specs.Prelude.{◌≡◌, ◌≢◌, ℕ, zero, suc, ◌==◌, ◌⊎◌, Bool, true, false, List, [], ◌∷◌, ◌++◌, Option, Some, None}
+use Rattle.std.specs.Prelude.{◌≡◌, ◌≢◌, ℕ, zero, suc, ◌==◌, ◌⊎◌, Bool, true, false, List, [], ◌∷◌}
+use Rattle.std.specs.Prelude.{◌++◌, Option, Some, None}
 use Rattle.bn_types.specs.declared.ending.Ending.{Ending}
 use Rattle.bn_types.specs.declared.ending.Ending.TheVariants.{Shutdown, Limit, Unbuilt}
 use Rattle.bn_types.specs.declared.event.Event.{Event}

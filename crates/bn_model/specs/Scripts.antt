@@ -1,5 +1,7 @@
 -- Scripts (this project's own grammar): a text's lines, and the events that they order.
-use Rattle.std.specs.Prelude.{ℕ, zero, suc, ◌+◌, ◌-◌, ◌*◌, ◌%◌, ◌^◌, ◌==◌, Bool, true, false, ◌&&◌, nat_le, nat_lt, List, [], ◌∷◌, ◌++◌, codes, flat_map, length, map, replicate, Option, Some, None, Result, Ok, Err, if◌then◌else◌}
+use Rattle.std.specs.Prelude.{ℕ, zero, suc, ◌+◌, ◌-◌, ◌*◌, ◌%◌, ◌^◌, ◌==◌, Bool, true, false, ◌&&◌}
+use Rattle.std.specs.Prelude.{nat_le, nat_lt, List, [], ◌∷◌, ◌++◌, codes, flat_map, length, map}
+use Rattle.std.specs.Prelude.{replicate, Option, Some, None, Result, Ok, Err, if◌then◌else◌}
 use Rattle.std.specs.List.{range_with_len}
 use Rattle.std.specs.Str.{bytes_eq}
 use Rattle.bn_types.specs.Numerals.{numeral_below}
@@ -44,7 +46,8 @@ unfoldable pub byte_in : List ℕ → Result ℕ ScriptSort
 byte_in field = spelled (byte_spelled field)
 
 infixl 10 ◌>>=◌
-abbrev pub ◌>>=◌ : {A B : Type 0} → Result A ScriptSort → (A → Result B ScriptSort) → Result B ScriptSort
+abbrev pub ◌>>=◌ : {A B : Type 0} → Result A ScriptSort → (A → Result B ScriptSort)
+    → Result B ScriptSort
 Ok value >>= next = next value
 Err fault >>= next = Err fault
 
@@ -93,7 +96,8 @@ key_of fields = counted (one_of fields) >>= (λ f. byte_in f >>= (λ b. Ok (Key 
 -- `poke G O B`: a device writes a byte
 unfoldable pub poke_of : List (List ℕ) → Result Command ScriptSort
 poke_of fields =
-    counted (three_of fields) >>= (λ f. number_in f.0 >>= (λ g. number_in f.1 >>= (λ o. byte_in f.2 >>= (λ b.
+    counted (three_of fields) >>=
+    (λ f. number_in f.0 >>= (λ g. number_in f.1 >>= (λ o. byte_in f.2 >>= (λ b.
     ranged (is_place g o) (Poke (record { 0 = g }) o b)))))
 
 -- `peek G O`: a device reads a byte
@@ -118,7 +122,8 @@ abbrev pub is_silent : List ℕ → Bool
 is_silent [] = true
 is_silent (first ∷ line) = first == 35
 
-abbrev pub ordered_if : (silent : Bool) → Result Command ScriptSort → Result (List Command) ScriptSort
+abbrev pub ordered_if : (silent : Bool) → Result Command ScriptSort
+    → Result (List Command) ScriptSort
 ordered_if true command = Ok []
 ordered_if false (Ok command) = Ok (command ∷ [])
 ordered_if false (Err fault) = Err fault
@@ -129,7 +134,8 @@ ordered_by harts line = ordered_if (is_silent line) (command_of harts (split_by 
 
 -- ---- the whole text
 
-abbrev pub joined : List Command → Result (List Command) ScriptFault → Result (List Command) ScriptFault
+abbrev pub joined : List Command → Result (List Command) ScriptFault
+    → Result (List Command) ScriptFault
 joined commands (Ok more) = Ok (commands ++ more)
 joined commands (Err fault) = Err fault
 
@@ -140,7 +146,8 @@ commands_with number (Ok commands) rest = joined commands rest
 commands_with number (Err fault) rest = Err (record { line = number; sort = fault })
 
 -- the commands of some lines, the first of which has that number; or the first bad line
-unfoldable pub commands_from : (harts number : ℕ) → List (List ℕ) → Result (List Command) ScriptFault
+unfoldable pub commands_from : (harts number : ℕ) → List (List ℕ)
+    → Result (List Command) ScriptFault
 commands_from harts number [] = Ok []
 commands_from harts number (line ∷ lines) =
     commands_with number (ordered_by harts line) (commands_from harts (number + 1) lines)
@@ -177,7 +184,8 @@ pub record Script : Type 0 where
   pub turn : ℕ
 
 abbrev pub script_of : (harts : ℕ) → List Command → Script
-script_of harts commands = record { harts = harts; events = flat_map (events_of harts) commands; turn = 0 }
+script_of harts commands =
+    record { harts = harts; events = flat_map (events_of harts) commands; turn = 0 }
 
 abbrev pub script_if : (harts : ℕ) → Result (List Command) ScriptFault → Result Script ScriptFault
 script_if harts (Ok commands) = Ok (script_of harts commands)

@@ -1,6 +1,7 @@
 -- What holds of every segment that a text says, and that such segments and their texts are one to
 -- one.
-use Rattle.std.specs.Prelude.{◌≡◌, ℕ, ◌/◌, ◌%◌, ◌^◌, ◌<◌, ◌≤◌, true, List, length, slice_index_or, Ok}
+use Rattle.std.specs.Prelude.{◌≡◌, ℕ, ◌/◌, ◌%◌, ◌^◌, ◌<◌, ◌≤◌, true, List, length, slice_index_or}
+use Rattle.std.specs.Prelude.{Ok}
 use Rattle.std.specs.List.{All, Contains}
 use Rattle.bn_types.specs.declared.digest.Digest.{Digest}
 use Rattle.bn_types.specs.declared.seg_page.SegPage.{SegPage}

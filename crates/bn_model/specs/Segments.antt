@@ -9,7 +9,10 @@
 --     16     64     8 entries: an address (8)
 --     80     1,024  64 pages: virtual page (8), sort (1), rights (1), mask (1), zeros (5)
 --     1,104  128    4 partners: a digest (32)
-use Rattle.std.specs.Prelude.{ℕ, ◌+◌, ◌-◌, ◌*◌, ◌/◌, ◌%◌, ◌^◌, ◌==◌, Bool, true, false, not, ◌&&◌, ◌||◌, nat_eq, nat_lt, nat_le, List, ◌∷◌, ◌++◌, codes, length, map, flat_map, replicate, slice_index, slice_range, Option, Some, None, Result, Ok, Err}
+use Rattle.std.specs.Prelude.{ℕ, ◌+◌, ◌-◌, ◌*◌, ◌/◌, ◌%◌, ◌^◌, ◌==◌, Bool, true, false, not, ◌&&◌}
+use Rattle.std.specs.Prelude.{◌||◌, nat_eq, nat_lt, nat_le, List, ◌∷◌, ◌++◌, codes, length, map}
+use Rattle.std.specs.Prelude.{flat_map, replicate, slice_index, slice_range, Option, Some, None}
+use Rattle.std.specs.Prelude.{Result, Ok, Err}
 use Rattle.std.specs.Int.{to_le_bytes, w64}
 use Rattle.std.specs.List.{list_all, list_any, range_with_len, starts_with}
 use Rattle.bn_types.specs.Numbers.{number_at}

@@ -1,5 +1,7 @@
 -- What holds of every state that a run reaches.
-use Rattle.std.specs.Prelude.{◌≡◌, ◌≢◌, ℕ, zero, suc, ◌+◌, ◌%◌, ◌^◌, ◌<◌, ◌≤◌, ◌⊎◌, Bool, true, false, ◌&&◌, count_by, length, List, [], ◌∷◌, Option, Some, None, slice_index}
+use Rattle.std.specs.Prelude.{◌≡◌, ◌≢◌, ℕ, zero, suc, ◌+◌, ◌%◌, ◌^◌, ◌<◌, ◌≤◌, ◌⊎◌, Bool, true}
+use Rattle.std.specs.Prelude.{false, ◌&&◌, count_by, length, List, [], ◌∷◌, Option, Some, None}
+use Rattle.std.specs.Prelude.{slice_index}
 use Rattle.std.specs.List.{All}
 use Rattle.bn_types.specs.Registers.{zero_frame}
 use Rattle.bn_types.specs.declared.decl.Decl.{Decl}
@@ -152,7 +154,8 @@ abbrev pub module_of : List Hart → ℕ → ℕ
 module_of harts h = (hart_in harts h).current.0
 
 -- runs: the module of each hart; states and callers: of each id
-pub record AreSwitched (runs : ℕ → ℕ) (states : ℕ → Option RowState) (callers : ℕ → ℕ) : Type 0 where
+pub record AreSwitched (runs : ℕ → ℕ) (states : ℕ → Option RowState) (callers : ℕ → ℕ) : Type
+    0 where
   -- a row runs on a hart exactly where that hart's module is this row's
   pub running : (id h : ℕ) → states id ≡ Some (Running h) → runs h ≡ id
   pub current : (h m : ℕ) → runs h ≡ suc m → states (suc m) ≡ Some (Running h)

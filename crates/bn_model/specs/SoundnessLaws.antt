@@ -7,7 +7,8 @@ use Rattle.bn_model.specs.Blanking.{blank}
 use Rattle.bn_model.specs.Opening.{Image, opening}
 use Rattle.bn_model.specs.Records.{AreRecords}
 use Rattle.bn_model.specs.Rows.{enclaves, owners}
-use Rattle.bn_model.specs.Soundness.{AreAsleep, AreStates, HasClaims, HasFewAcceptances, HasIds, HaveModes, IsHart, IsPc, IsRow, IsSound}
+use Rattle.bn_model.specs.Soundness.{AreAsleep, AreStates, HasClaims, HasFewAcceptances, HasIds}
+use Rattle.bn_model.specs.Soundness.{HaveModes, IsHart, IsPc, IsRow, IsSound}
 use Rattle.bn_model.specs.State.{State}
 use Rattle.bn_model.specs.Stepping.{Fits, step}
 
@@ -28,7 +29,8 @@ pub record FitsOpening (pages harts : ℕ) (image : Image) (records : List Recor
 -- a run begins in a sound state
 abbrev pub OpeningIsSound : Type 0
 OpeningIsSound =
-    (pages harts : ℕ) (image : Image) (records : List Record) → FitsOpening pages harts image records →
+    (pages harts : ℕ) (image : Image) (records : List Record)
+    → FitsOpening pages harts image records →
     IsSound (opening pages harts image records)
 
 -- ---- what keeps it
@@ -46,7 +48,8 @@ KeepsIds = (s : State) (event : Event) → Fits s event → IsSound s →
 abbrev pub KeepsClaims : Type 0
 KeepsClaims =
     (s : State) (event : Event) → Fits s event → IsSound s →
-    HasClaims (enclaves (step s event).rows) (owners (step s event).rows) (length (step s event).pages)
+    HasClaims (enclaves (step s event).rows) (owners (step s event).rows)
+    (length (step s event).pages)
 
 -- a page is accepted at most four times
 abbrev pub KeepsAcceptances : Type 0
@@ -60,7 +63,8 @@ KeepsStates = (s : State) (event : Event) → Fits s event → IsSound s →
 
 -- a hart that isn't started runs no module
 abbrev pub KeepsAsleep : Type 0
-KeepsAsleep = (s : State) (event : Event) → Fits s event → IsSound s → AreAsleep (step s event).harts
+KeepsAsleep = (s : State) (event : Event) → Fits s event → IsSound s
+    → AreAsleep (step s event).harts
 
 -- a hart that runs a module is in its mode
 abbrev pub KeepsModes : Type 0
@@ -80,7 +84,8 @@ KeepsHarts = (s : State) (event : Event) → Fits s event → IsSound s →
 pub record AreStored (s : State) : Type 0 where
   pub some_pages : 1 ≤ length s.pages
   pub few_pages : length s.pages ≤ 4096
-  pub pages : All (λ (page : List ℕ). (length page ≡ 4096) × All (λ byte. byte < 2 ^ 8) page) s.pages
+  pub pages : All (λ (page : List ℕ). (length page ≡ 4096) × All (λ byte. byte < 2 ^ 8) page)
+      s.pages
   pub few_keys : length s.keys ≤ 256
   pub keys : All (λ key. key < 2 ^ 8) s.keys
   pub records : AreRecords s.records

@@ -12,7 +12,8 @@ use Rattle.bn_types.specs.declared.line.Line.{Line}
 use Rattle.bn_types.specs.declared.request.Request.{Request}
 use Rattle.bn_types.specs.declared.request.Request.TheVariants as request
 use Rattle.bn_model.specs.declared.head.Head.{Head}
-use Rattle.bn_model.specs.LineShapes.{Field, Decimal, Byte, Page, Word, Sha, Code, Access, Asked, Ended, ValueOf, Values, word_of, fields_of, with_parts}
+use Rattle.bn_model.specs.LineShapes.{Field, Decimal, Byte, Page, Word, Sha, Code, Access, Asked}
+use Rattle.bn_model.specs.LineShapes.{Ended, ValueOf, Values, word_of, fields_of, with_parts}
 
 abbrev pub finish_word : Finish → List ℕ
 finish_word Shutdown = codes "shutdown"

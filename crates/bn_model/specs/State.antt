@@ -1,5 +1,6 @@
 -- The state of the flat machine: guest memory without nested tables or cached translations.
-use Rattle.std.specs.Prelude.{ℕ, ◌+◌, ◌-◌, ◌%◌, ◌^◌, ◌==◌, Bool, true, false, List, ◌++◌, drop, replicate, slice_index, slice_index_or, slice_set, take}
+use Rattle.std.specs.Prelude.{ℕ, ◌+◌, ◌-◌, ◌%◌, ◌^◌, ◌==◌, Bool, true, false, List, ◌++◌, drop}
+use Rattle.std.specs.Prelude.{replicate, slice_index, slice_index_or, slice_set, take}
 use Rattle.bn_types.specs.declared.asker.Asker.{Asker}
 use Rattle.bn_types.specs.Registers.{zero_registers}
 use Rattle.bn_types.specs.declared.cause.Cause.{Cause}
@@ -16,7 +17,7 @@ use Rattle.bn_model.specs.Memory.{Memory}
 use Rattle.bn_model.specs.Rows.{owners}
 use Rattle.bn_model.specs.Trapping.{after_software, after_sret, after_trap, trap_target}
 
--- a hart (Unprivileged ISA, "Hardware Threads")
+-- a hart (Unprivileged ISA, "RISC-V Software Execution Environments and Harts")
 pub record Hart : Type 0 where
   pub regs : Regs
   pub pc : ℕ

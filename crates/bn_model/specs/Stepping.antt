@@ -1,5 +1,7 @@
 -- One step of the flat machine, and its lines.
-use Rattle.std.specs.Prelude.{ℕ, zero, suc, ◌+◌, ◌-◌, ◌%◌, ◌==◌, ◌<◌, Bool, true, false, nat_lt, length, List, [], ◌∷◌, ◌++◌, Option, Some, None, slice_get, slice_set, ◌^◌}
+use Rattle.std.specs.Prelude.{ℕ, zero, suc, ◌+◌, ◌-◌, ◌%◌, ◌==◌, ◌<◌, Bool, true, false, nat_lt}
+use Rattle.std.specs.Prelude.{length, List, [], ◌∷◌, ◌++◌, Option, Some, None, slice_get, slice_set}
+use Rattle.std.specs.Prelude.{◌^◌}
 use Rattle.bn_types.specs.Numbers.{number_at, with_number}
 use Rattle.bn_types.specs.declared.cause.Cause.{Cause}
 use Rattle.bn_types.specs.declared.event.Event.{Event}
@@ -17,15 +19,24 @@ use Rattle.bn_types.specs.declared.width.Width.TheVariants.{B1}
 use Rattle.bn_model.specs.declared.place.Place.{Place}
 use Rattle.bn_model.specs.Accessing.{pages_with}
 use Rattle.bn_model.specs.Deciding.{decision_of}
-use Rattle.bn_model.specs.Decision.{Decision, Rest, Trap, Deny, Next, Set, Jump, Store, Csr, ReturnFromTrap, Put, Answer, ShutDown, SetTimer, TakeKey, NoKey, Start, Send, Refuse, Launch, Call, Return, Resume, Evict, Tell, SetWord}
+use Rattle.bn_model.specs.Decision.{Decision, Rest, Trap, Deny, Next, Set, Jump, Store, Csr}
+use Rattle.bn_model.specs.Decision.{ReturnFromTrap, Put, Answer, ShutDown, SetTimer, TakeKey, NoKey}
+use Rattle.bn_model.specs.Decision.{Start, Send, Refuse, Launch, Call, Return, Resume, Evict, Tell}
+use Rattle.bn_model.specs.Decision.{SetWord}
 use Rattle.bn_model.specs.Each.{each}
 use Rattle.bn_model.specs.Bits.{is_set}
 use Rattle.bn_model.specs.Evicting.{evicted_rows, pages_left, rows_left}
 use Rattle.bn_model.specs.Memory.{visible}
 use Rattle.bn_model.specs.Refusals.{minus, minus_in_64_bits}
 use Rattle.bn_model.specs.Rows.{new_row, owners, row_of, saved_of, with_row}
-use Rattle.bn_model.specs.State.{Hart, State, a0, frame_of, hart_after_answer, hart_after_call, hart_after_csr, hart_after_jump, hart_after_next, hart_after_resume, hart_after_return, hart_after_set, hart_after_software, hart_after_sret, hart_after_stop, hart_after_timer, hart_after_trap, hart_at, memory, next_pc, started_hart, with_hart, with_register}
-use Rattle.bn_model.specs.Switching.{frame_of_caller, row_after_resume, row_after_stop, rows_after_call, rows_after_return}
+use Rattle.bn_model.specs.State.{Hart, State, a0, frame_of, hart_after_answer, hart_after_call}
+use Rattle.bn_model.specs.State.{hart_after_csr, hart_after_jump, hart_after_next}
+use Rattle.bn_model.specs.State.{hart_after_resume, hart_after_return, hart_after_set}
+use Rattle.bn_model.specs.State.{hart_after_software, hart_after_sret, hart_after_stop}
+use Rattle.bn_model.specs.State.{hart_after_timer, hart_after_trap, hart_at, memory, next_pc}
+use Rattle.bn_model.specs.State.{started_hart, with_hart, with_register}
+use Rattle.bn_model.specs.Switching.{frame_of_caller, row_after_resume, row_after_stop}
+use Rattle.bn_model.specs.Switching.{rows_after_call, rows_after_return}
 use Rattle.bn_model.specs.Walking.{access_fault, vpn_of}
 
 -- one event more was made

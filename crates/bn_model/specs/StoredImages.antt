@@ -1,6 +1,8 @@
 -- Stored images, version 1: 8 bytes of magic, the number of records, and for each its identity of
 -- 32 bytes and its 32 words. Numbers have 8 bytes, little endian. Identities strictly ascend.
-use Rattle.std.specs.Prelude.{ℕ, zero, suc, ◌+◌, ◌*◌, ◌==◌, min, Bool, true, false, nat_lt, List, [], ◌∷◌, ◌++◌, Option, Some, None, length, take, drop, codes, flat_map}
+use Rattle.std.specs.Prelude.{ℕ, zero, suc, ◌+◌, ◌*◌, ◌==◌, min, Bool, true, false, nat_lt, List}
+use Rattle.std.specs.Prelude.{[], ◌∷◌, ◌++◌, Option, Some, None, length, take, drop, codes}
+use Rattle.std.specs.Prelude.{flat_map}
 use Rattle.std.specs.Int.{from_le_bytes, to_le_bytes, w64}
 use Rattle.std.specs.declared.cmp.Ordering.{Ordering}
 use Rattle.std.specs.declared.cmp.Ordering.TheVariants.{Less, Equal, Greater}
@@ -65,7 +67,8 @@ unless_equal false at rest = Some at
 abbrev pub magic_fault : ℕ → List ℕ → List ℕ → Option ℕ
 magic_fault at [] text = None
 magic_fault at (m ∷ magic) [] = Some at
-magic_fault at (m ∷ magic) (byte ∷ text) = unless_equal (byte == m) at (magic_fault (at + 1) magic text)
+magic_fault at (m ∷ magic) (byte ∷ text) =
+    unless_equal (byte == m) at (magic_fault (at + 1) magic text)
 
 -- a length that isn't that of so many records: where the shorter of both ends
 abbrev pub length_fault : Bool → ℕ → ℕ → Option ℕ
@@ -76,7 +79,8 @@ length_fault false size wanted = Some (min size wanted)
 abbrev pub count_fault : Bool → List ℕ → Option ℕ
 count_fault true text = Some 8
 count_fault false text =
-    length_fault (length text == image_size (count_in text)) (length text) (image_size (count_in text))
+    length_fault (length text == image_size (count_in text)) (length text)
+    (image_size (count_in text))
 
 abbrev pub after_magic : Option ℕ → List ℕ → Option ℕ
 after_magic (Some at) text = Some at

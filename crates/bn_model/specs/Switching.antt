@@ -1,6 +1,7 @@
 -- Calls into modules and back, stops and resumptions (this project's own rules): what becomes of
 -- the rows.
-use Rattle.std.specs.Prelude.{ℕ, zero, suc, ◌==◌, Bool, true, false, ◌&&◌, find, List, Option, Some, None}
+use Rattle.std.specs.Prelude.{ℕ, zero, suc, ◌==◌, Bool, true, false, ◌&&◌, find, List, Option, Some}
+use Rattle.std.specs.Prelude.{None}
 use Rattle.std.specs.List.{list_any}
 use Rattle.bn_types.specs.Registers.{zero_frame}
 use Rattle.bn_types.specs.declared.decl.Decl.{Decl}

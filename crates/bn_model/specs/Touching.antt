@@ -1,5 +1,6 @@
 -- Which guest pages an event reads and writes.
-use Rattle.std.specs.Prelude.{ℕ, zero, suc, Bool, true, false, flat_map, List, [], ◌∷◌, ◌++◌, map, Option, Some, None, Result, Ok, Err}
+use Rattle.std.specs.Prelude.{ℕ, zero, suc, Bool, true, false, flat_map, List, [], ◌∷◌, ◌++◌, map}
+use Rattle.std.specs.Prelude.{Option, Some, None, Result, Ok, Err}
 use Rattle.bn_types.specs.declared.act.Act.{Act}
 use Rattle.bn_types.specs.declared.act.Act.TheVariants as act
 use Rattle.bn_types.specs.declared.asker.Asker.{Asker}
@@ -24,7 +25,8 @@ use Rattle.bn_types.specs.declared.width.Width.TheVariants.{B4}
 use Rattle.bn_model.specs.declared.place.Place.{Place}
 use Rattle.bn_model.specs.Accessing.{access, is_aligned}
 use Rattle.bn_model.specs.Deciding.{asked_of}
-use Rattle.bn_model.specs.Decision.{Asked, Nothing, Interrupted, Unfetched, Resuming, Unknown, Acting}
+use Rattle.bn_model.specs.Decision.{Asked, Nothing, Interrupted, Unfetched, Resuming, Unknown}
+use Rattle.bn_model.specs.Decision.{Acting}
 use Rattle.bn_model.specs.Launching.{Text, address_of_page, decls_of, is_text_address, text_at}
 use Rattle.bn_model.specs.Memory.{Memory, visible}
 use Rattle.bn_model.specs.Owners.{is_own}

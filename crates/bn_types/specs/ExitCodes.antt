@@ -1,7 +1,8 @@
 -- The exit codes of the program.
 use Rattle.std.specs.Prelude.{ℕ}
 use Rattle.bn_types.specs.declared.status.Status.{Status}
-use Rattle.bn_types.specs.declared.status.Status.TheVariants.{Ended, Limit, NoFile, Image, SinkFault, DeskFault, Unbuilt, Memory}
+use Rattle.bn_types.specs.declared.status.Status.TheVariants.{Ended, Limit, NoFile, Image}
+use Rattle.bn_types.specs.declared.status.Status.TheVariants.{SinkFault, DeskFault, Unbuilt, Memory}
 
 -- this project's own table; 71 is `EX_OSERR` of sysexits.h
 abbrev pub exit_code : Status → ℕ

@@ -1,5 +1,6 @@
 -- Numbers that stand in memory, little endian (Unprivileged ISA, "Load and Store Instructions").
-use Rattle.std.specs.Prelude.{◌≡◌, ℕ, ◌+◌, ◌*◌, ◌%◌, ◌^◌, ◌<◌, List, [], ◌++◌, length, take, drop, replicate, slice_index_or}
+use Rattle.std.specs.Prelude.{◌≡◌, ℕ, ◌+◌, ◌*◌, ◌%◌, ◌^◌, ◌<◌, List, [], ◌++◌, length, take, drop}
+use Rattle.std.specs.Prelude.{replicate, slice_index_or}
 use Rattle.std.specs.Int.{from_le_bytes, to_le_bytes, w8, w16, w32, w64}
 use Rattle.std.specs.Int as int
 use Rattle.bn_types.specs.declared.width.Width.{Width}

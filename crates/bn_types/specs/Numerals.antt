@@ -1,5 +1,6 @@
 -- Decimal numbers without leading zeros.
-use Rattle.std.specs.Prelude.{ℕ, ◌+◌, ◌-◌, ◌*◌, ◌==◌, Bool, true, false, ◌&&◌, not, nat_le, nat_lt, List, [], ◌∷◌, Option, Some, None}
+use Rattle.std.specs.Prelude.{ℕ, ◌+◌, ◌-◌, ◌*◌, ◌==◌, Bool, true, false, ◌&&◌, not, nat_le, nat_lt}
+use Rattle.std.specs.Prelude.{List, [], ◌∷◌, Option, Some, None}
 use Rattle.std.specs.List.{list_all}
 
 abbrev pub is_digit : ℕ → Bool
@@ -17,12 +18,15 @@ number_if false number = None
 -- a number with one more digit, where it is one and the number stays below a limit
 abbrev pub with_digit : (limit before digit : ℕ) → Option ℕ
 with_digit limit before digit =
-    number_if (is_digit digit && nat_lt (before * 10 + (digit - 48)) limit) (before * 10 + (digit - 48))
+    number_if (is_digit digit && nat_lt (before * 10 + (digit - 48)) limit)
+    (before * 10 + (digit - 48))
 
--- the number that digits spell after those of another, where all are digits and the number is below a limit
+-- the number that digits spell after those of another, where all are digits and the number is below
+-- a limit
 unfoldable pub digits_below : (limit before : ℕ) → List ℕ → Option ℕ
 digits_below limit before digits =
-    number_if (list_all is_digit digits && nat_lt (value_after before digits) limit) (value_after before digits)
+    number_if (list_all is_digit digits && nat_lt (value_after before digits) limit)
+    (value_after before digits)
 
 -- a lone digit, or digits of which the first isn't 0
 abbrev pub has_no_leading_zero : List ℕ → Bool

@@ -1,5 +1,5 @@
--- The guest pages as the untrusted world can read them: each page's bytes, or None where a live module
--- declares it.
+-- The guest pages as the untrusted world can read them: each page's bytes, or None where a live
+-- module declares it.
 use Rattle.std.specs.Prelude.{ℕ, List, Option, Some, None, slice_get}
 use Rattle.bn_types.specs.Numbers.{number_at}
 use Rattle.bn_types.specs.declared.page_state.PageState.{PageState}
@@ -24,7 +24,8 @@ word_of (Some (Some bytes)) offset = Some (number_at B8 bytes offset)
 abbrev pub word_at : List (Option (List ℕ)) → ℕ → ℕ → Option ℕ
 word_at pages g offset = word_of (slice_get pages g) offset
 
--- how many table words reading one word of such a page takes: three nested entries and the word itself
+-- how many table words reading one word of such a page takes: three nested entries and the word
+-- itself
 abbrev pub words_read : PageState → ℕ
 words_read Free = 4
 words_read Owned = 0

@@ -1,7 +1,7 @@
 use crate::{ModId, Mode};
 
-/// Who makes a memory access: a hart, with what translation and permissions depend on (Privileged ISA,
-/// "Supervisor Address Translation and Protection Register", "Supervisor Status Register").
+/// Who makes a memory access: a hart, with what translation and permissions depend on (Privileged
+/// ISA, "Supervisor Address Translation and Protection Register", "Supervisor Status Register").
 #[derive(Clone, Copy, Debug, PartialEq, Eq)]
 pub struct Asker {
     pub hart: u8,

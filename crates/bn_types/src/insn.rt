@@ -1,6 +1,7 @@
 use crate::{CsrFrom, CsrOp, ImmOp, Op, Reg, Secure, ShiftOp, Test, Width, WordOp};
 
-/// An instruction of RV64I, Zicsr, the supervisor level or the secure extension. Registers are below 32.
+/// An instruction of RV64I, Zicsr, the supervisor level or the secure extension. Registers are
+/// below 32.
 #[derive(Clone, Copy, Debug, PartialEq, Eq)]
 pub enum Insn {
     /// `imm` is a multiple of 4,096.

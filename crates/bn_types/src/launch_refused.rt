@@ -1,6 +1,7 @@
 use crate::SegFault;
 
-/// Why a launch is refused: the first test that fails, each made over the whole segment before the next.
+/// Why a launch is refused: the first test that fails, each made over the whole segment before the
+/// next.
 #[derive(Clone, Copy, Debug, PartialEq, Eq)]
 pub enum LaunchRefused {
     /// The text's address isn't a multiple of 8, or the text doesn't lie in one page.

@@ -2,7 +2,8 @@
 ghost use Rattle.std.specs.Prelude.{◌≡◌, ◌^◌};
 ghost use Rattle.bn_types.specs.Numerals as flat;
 
-/// The number that a word spells in decimal, without leading zeros. None exactly where it spells none below 2^64.
+/// The number that a word spells in decimal, without leading zeros. None exactly where it spells
+/// none below 2^64.
 #[tactic(auto, unfolding(crate::specs::Numerals::numeral_below))]
 pub fn read_numeral(word: &[u8]) -> Option<u64>
     ensures { result ≡ flat.numeral_below (2 ^ 64) word.now }

@@ -13,8 +13,9 @@ pub trait Pages {
     fn state(&self, page: Gpn) -> PageState
         ensures { result ≡ state_at (visible self.now) page.0 };
 
-    /// The 8-byte word at the offset, a multiple of 8 below 4,096. None exactly where the page isn't free.
-    /// A free page's word costs four steps, three for the nested tables and one for itself; else none.
+    /// The 8-byte word at the offset, a multiple of 8 below 4,096. None exactly where the page
+    /// isn't free. A free page's word costs four steps, three for the nested tables and one for
+    /// itself; else none.
     fn word<L: Ledger>(&self, page: Gpn, offset: u16, steps: &mut Steps<L>) -> Option<u64>
         requires aligned { offset % 8 ≡ 0 }
         requires inside { offset < 4096 }

@@ -6,7 +6,8 @@ pub struct Row {
     pub id: ModId,
     pub judged: Judged,
     pub state: RowState,
-    /// The module's own registers, pc and mode while it is waiting or stopped, else all zeros in mode U.
+    /// The module's own registers, pc and mode while it is waiting or stopped, else all zeros in
+    /// mode U.
     pub saved: SavedFrame,
     /// The module that called it, 0 for the untrusted world or none.
     pub caller: ModId,

@@ -1,4 +1,5 @@
-/// Why a text is no segment: the first test that fails, each made over the whole text before the next.
+/// Why a text is no segment: the first test that fails, each made over the whole text before the
+/// next.
 #[derive(Clone, Copy, Debug, PartialEq, Eq)]
 pub enum SegFault {
     /// The first 4 bytes aren't `BNSG`.
@@ -19,7 +20,8 @@ pub enum SegFault {
     RightsBits,
     /// An entry isn't a multiple of 4, or its page isn't declared private with fetch.
     EntryPlace,
-    /// There are more than 4 partners; or an offer's mask is 0 or names none; or another page has a mask.
+    /// There are more than 4 partners; or an offer's mask is 0 or names none; or another page has a
+    /// mask.
     PartnerPlace,
     /// A byte isn't zero that has no meaning, or that belongs to an unused entry, page or partner.
     Padding,

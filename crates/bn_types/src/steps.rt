@@ -3,8 +3,8 @@ ghost use Rattle.std.specs.Prelude.{◌≡◌, ◌+◌, ◌<◌};
 use std::marker::Model;
 use std::sync::ledger::{Blank, Book, Ledger, Share};
 
-/// Counts the table words that walks read: one step is one 8-byte word. It takes no bytes at run time,
-/// and only `tick` changes it.
+/// Counts the table words that walks read: one step is one 8-byte word. It takes no bytes at run
+/// time, and only `tick` changes it.
 #[derive(Drop)]
 pub struct Steps<L: Ledger> {
     book: Book<L>,

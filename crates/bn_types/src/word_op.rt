@@ -1,5 +1,5 @@
-/// An operation of the low 32 bits of two registers (Unprivileged ISA, "RV64I Base Integer Instruction
-/// Set").
+/// An operation of the low 32 bits of two registers (Unprivileged ISA, "RV64I Base Integer
+/// Instruction Set").
 #[derive(Clone, Copy, Debug, PartialEq, Eq)]
 pub enum WordOp {
     Add,

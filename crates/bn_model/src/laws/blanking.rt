@@ -1,5 +1,6 @@
 //! The laws of a resting module's secrets.
-ghost use Rattle.bn_model.specs.BlankingLaws.{KeepsResting, RestingHidesSecrets, TellsNoSecrets, UsesNoSecrets, ZeroingChangesNothing};
+ghost use Rattle.bn_model.specs.BlankingLaws.{KeepsResting, RestingHidesSecrets, TellsNoSecrets};
+ghost use Rattle.bn_model.specs.BlankingLaws.{UsesNoSecrets, ZeroingChangesNothing};
 
 /// The lines of an event are the same without the secrets of a module that rests before it.
 pub fn tells_no_secrets()

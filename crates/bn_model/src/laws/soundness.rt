@@ -1,4 +1,7 @@
-ghost use Rattle.bn_model.specs.SoundnessLaws.{BlankingKeepsSound, KeepsAcceptances, KeepsAsleep, KeepsClaims, KeepsHarts, KeepsIds, KeepsModes, KeepsRows, KeepsSound, KeepsStates, KeepsStored, OpeningIsSound};
+ghost use Rattle.bn_model.specs.SoundnessLaws.{BlankingKeepsSound, KeepsAcceptances, KeepsAsleep};
+ghost use Rattle.bn_model.specs.SoundnessLaws.{KeepsClaims, KeepsHarts, KeepsIds, KeepsModes};
+ghost use Rattle.bn_model.specs.SoundnessLaws.{KeepsRows, KeepsSound, KeepsStates, KeepsStored};
+ghost use Rattle.bn_model.specs.SoundnessLaws.{OpeningIsSound};
 
 /// A run begins in a sound state.
 pub fn opening_is_sound()

@@ -1,4 +1,5 @@
-ghost use Rattle.bn_model.specs.WalkLaws.{LeavesAreLocal, RefusedWalksAreLocal, WalksAreLocal, WalksReadFreePages, WalksReadThreeTables};
+ghost use Rattle.bn_model.specs.WalkLaws.{LeavesAreLocal, RefusedWalksAreLocal, WalksAreLocal};
+ghost use Rattle.bn_model.specs.WalkLaws.{WalksReadFreePages, WalksReadThreeTables};
 
 /// A walk reads entries from free pages alone.
 pub fn walks_read_free_pages()

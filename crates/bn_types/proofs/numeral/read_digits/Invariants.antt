@@ -4,6 +4,7 @@ use Rattle.bn_types.proofs.numeral.read_digits.Given as goal
 
 abbrev pub invariant-loop-digit : goal.invariant-loop-digit
 invariant-loop-digit l = record {
-  whole : digits_below (2 ^ 64) 0 l.digits ≡ digits_below (2 ^ 64) l.number (drop l.digit-index l.digits);
+  whole : digits_below (2 ^ 64) 0 l.digits ≡
+      digits_below (2 ^ 64) l.number (drop l.digit-index l.digits);
   fits : l.number < 2 ^ 64;
 }
