@@ -1,24 +1,28 @@
 -- Laws of runs.
-use Rattle.std.proofs.Common.{◌≡◌, ℕ, suc, zero, ◌+◌, ◌-◌, ◌<◌, Bool, true, false, List, [], ◌∷◌, ◌++◌, Option, None, refl, ap, ◌∙◌, sym, arith}
+use Rattle.std.proofs.Common.{◌≡◌, ℕ, suc, zero, ◌+◌, ◌-◌, ◌<◌, Bool, true, false, List, [], ◌∷◌}
+use Rattle.std.proofs.Common.{◌++◌, Option, None, refl, ap, ◌∙◌, sym, arith}
 use Rattle.std.proofs.lemmas.List.{append_assoc}
 use Rattle.bn_types.specs.declared.ending.Ending.TheVariants.{Shutdown, Limit, Unbuilt}
 use Rattle.bn_types.specs.declared.event.Event.{Event}
 use Rattle.bn_types.specs.declared.event.Event.TheVariants.{Turn}
 use Rattle.bn_types.specs.declared.line.Line.{Line}
-use Rattle.bn_model.specs.Running.{Blind, Built, Course, Run, course, onward, run, state_before, turns, unless_off}
+use Rattle.bn_model.specs.Running.{Blind, Built, Course, Run, course, onward, run, state_before}
+use Rattle.bn_model.specs.Running.{turns, unless_off}
 use Rattle.bn_model.specs.State.{State}
 use Rattle.bn_model.specs.Stepping.{step, lines}
 
 -- ---- a course
 
 -- a state that is off makes no events
-pub course_off : (is_built : Built) (s : State) (es : List Event) → s.off ≡ true → course is_built None s es ≡ record { told = []; ending = Shutdown; last = s }
+pub course_off : (is_built : Built) (s : State) (es : List Event) → s.off ≡ true
+    → course is_built None s es ≡ record { told = []; ending = Shutdown; last = s }
 unfolding course
 course_off is_built s [] e = rw e refl
 course_off is_built s (event ∷ es) e = rw e refl
 
 -- no events
-pub course_none : (is_built : Built) (s : State) → s.off ≡ false → course is_built None s [] ≡ record { told = []; ending = Limit; last = s }
+pub course_none : (is_built : Built) (s : State) → s.off ≡ false
+    → course is_built None s [] ≡ record { told = []; ending = Limit; last = s }
 unfolding course
 course_none is_built s e = rw e refl
 
@@ -26,20 +30,27 @@ course_none is_built s e = rw e refl
 abbrev made_if : Built → State → Event → List Event → Bool → Course
 made_if is_built s e es built = onward built s (lines s e) (course is_built None (step s e) es)
 
-unless_on : (is_built : Built) (s : State) (e : Event) (es : List Event) → s.off ≡ false → course is_built None s (e ∷ es) ≡ made_if is_built s e es (is_built s e)
+unless_on : (is_built : Built) (s : State) (e : Event) (es : List Event) → s.off ≡ false
+    → course is_built None s (e ∷ es) ≡ made_if is_built s e es (is_built s e)
 unfolding course
-unless_on is_built s e es on = ap (λ off. unless_off off s (made_if is_built s e es (is_built s e))) on
+unless_on is_built s e es on =
+    ap (λ off. unless_off off s (made_if is_built s e es (is_built s e))) on
 
 -- an event that isn't built ends the run before it
-pub course_unbuilt : (is_built : Built) (s : State) (e : Event) (es : List Event) → s.off ≡ false → is_built s e ≡ false
+pub course_unbuilt : (is_built : Built) (s : State) (e : Event) (es : List Event) → s.off ≡ false
+    → is_built s e ≡ false
     → course is_built None s (e ∷ es) ≡ record { told = []; ending = Unbuilt; last = s }
-course_unbuilt is_built s e es on built = unless_on is_built s e es on ∙ ap (made_if is_built s e es) built
+course_unbuilt is_built s e es on built = unless_on is_built s e es on
+    ∙ ap (made_if is_built s e es) built
 
 -- a built event, and the run of the others
-pub course_built : (is_built : Built) (s : State) (e : Event) (es : List Event) → s.off ≡ false → is_built s e ≡ true
+pub course_built : (is_built : Built) (s : State) (e : Event) (es : List Event) → s.off ≡ false
+    → is_built s e ≡ true
     → course is_built None s (e ∷ es)
-    ≡ (let rest = course is_built None (step s e) es in record rest { told = lines s e ++ rest.told })
-course_built is_built s e es on built = unless_on is_built s e es on ∙ ap (made_if is_built s e es) built
+    ≡ (let rest = course is_built None (step s e) es in
+    record rest { told = lines s e ++ rest.told })
+course_built is_built s e es on built = unless_on is_built s e es on
+    ∙ ap (made_if is_built s e es) built
 
 -- ---- runs of some events
 
@@ -50,13 +61,15 @@ onto told rest = record rest { told = told ++ rest.told }
 abbrev pub run_on : Option Blind → Run → List Event → Run
 run_on blind first es = onto first.told (run blind first.last es)
 
-pub run-append : (blind : Option Blind) (s : State) (es fs : List Event) → run blind s (es ++ fs) ≡ run_on blind (run blind s es) fs
+pub run-append : (blind : Option Blind) (s : State) (es fs : List Event)
+    → run blind s (es ++ fs) ≡ run_on blind (run blind s es) fs
 unfolding run
 run-append blind s [] fs = refl
 run-append blind s (e ∷ es) fs =
     let before = state_before blind s in
     ap (onto (lines before e)) (run-append blind (step before e) es fs)
-    ∙ ap (λ (told : List Line). record { told = told; last = (run blind (run blind (step before e) es).last fs).last })
+    ∙ ap (λ (told : List Line).
+    record { told = told; last = (run blind (run blind (step before e) es).last fs).last })
     (sym (append_assoc (lines before e) (run blind (step before e) es).told _))
 
 -- ---- turns of hart 0
@@ -72,6 +85,7 @@ pub turns-more : (n : ℕ) → turns (n + 1) ≡ turns n ++ Turn 0 ∷ []
 unfolding turns
 turns-more n = turns-plus n zero
 
-pub turns-split : (made limit : ℕ) → made < limit → turns limit ≡ turns made ++ Turn 0 ∷ turns (limit - (made + 1))
+pub turns-split : (made limit : ℕ) → made < limit
+    → turns limit ≡ turns made ++ Turn 0 ∷ turns (limit - (made + 1))
 turns-split made limit below = let split : limit ≡ made + suc (limit - (made + 1)) = omega arith in
     ap turns split ∙ turns-plus made (limit - (made + 1))

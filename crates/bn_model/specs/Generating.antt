@@ -1,7 +1,8 @@
 -- The generator (this project's own): from a number, an image and a script that try the secure
 -- machine. The image has a kernel, its trap handler and eight modules; the kernel launches all
 -- modules and then calls them in turn; the script interrupts them by keys and devices.
-use Rattle.std.specs.Prelude.{ℕ, zero, suc, ◌+◌, ◌-◌, ◌*◌, ◌/◌, ◌%◌, ◌^◌, true, List, [], ◌∷◌, ◌++◌, ℤ, pos, neg_ℤ, codes, decimal, flat_map, length, replicate}
+use Rattle.std.specs.Prelude.{ℕ, zero, suc, ◌+◌, ◌-◌, ◌*◌, ◌/◌, ◌%◌, ◌^◌, true, List, [], ◌∷◌, ◌++◌}
+use Rattle.std.specs.Prelude.{ℤ, pos, neg_ℤ, codes, decimal, flat_map, length, replicate}
 use Rattle.std.specs.Int.{to_le_bytes, w32}
 use Rattle.std.specs.List.{range_with_len}
 use Rattle.hex.specs.Hex.{encode_lower}
@@ -9,7 +10,8 @@ use Rattle.bn_types.specs.declared.csr_from.CsrFrom.TheVariants.{Register, Numbe
 use Rattle.bn_types.specs.declared.csr_op.CsrOp.TheVariants as csr_op
 use Rattle.bn_types.specs.declared.imm_op.ImmOp.TheVariants as imm_op
 use Rattle.bn_types.specs.declared.insn.Insn.{Insn}
-use Rattle.bn_types.specs.declared.insn.Insn.TheVariants.{Auipc, Bastion, Branch, Csr, Ecall, Imm, Load, Reg2, Shift, Sret, Store}
+use Rattle.bn_types.specs.declared.insn.Insn.TheVariants.{Auipc, Bastion, Branch, Csr, Ecall, Imm}
+use Rattle.bn_types.specs.declared.insn.Insn.TheVariants.{Load, Reg2, Shift, Sret, Store}
 use Rattle.bn_types.specs.declared.mode.Mode.TheVariants.{S}
 use Rattle.bn_types.specs.declared.op.Op.TheVariants as op
 use Rattle.bn_types.specs.declared.reg.Reg.{Reg}

@@ -83,7 +83,8 @@ fault_line fault = codes "image " ++ sort_word fault.sort ++ codes " " ++ decima
 -- the run of an order, once its image is loaded
 abbrev pub report_of_load : Built → Load → RunOrder → Report
 report_of_load is_built Unbuilt order = unbuilt
-report_of_load is_built (Faulty fault) order = record { status = status.Image; text = fault_line fault }
+report_of_load is_built (Faulty fault) order =
+    record { status = status.Image; text = fault_line fault }
 report_of_load is_built (Ram image) order =
     report_of_course (course is_built None (opening order.ram_pages 1 image []) (turns order.steps))
 

@@ -1,6 +1,7 @@
 -- The store of a call: what stands in its two areas and in the chip's register, what a call opens
 -- them to, and what they hold once its records are committed.
-use Rattle.std.specs.Prelude.{ℕ, Bool, true, false, List, [], ◌++◌, bytes_eq, codes, decimal, Result, Ok, Err}
+use Rattle.std.specs.Prelude.{ℕ, Bool, true, false, List, [], ◌++◌, bytes_eq, codes, decimal}
+use Rattle.std.specs.Prelude.{Result, Ok, Err}
 use Rattle.hex.specs.Hex.{encode_lower}
 use Rattle.sha2.specs.Sha256.{sha256}
 use Rattle.bn_types.specs.declared.record.Record.{Record}

@@ -1,6 +1,7 @@
 -- The run of what the generator makes, and the summary that tells of it: the number, how many
 -- events were made, how often each kind of line came, and how the run ended.
-use Rattle.std.specs.Prelude.{ℕ, ◌-◌, ◌*◌, Bool, true, false, not, List, [], ◌++◌, bytes_eq, codes, count_by, decimal, filter, flat_map, length, replicate, None}
+use Rattle.std.specs.Prelude.{ℕ, ◌-◌, ◌*◌, Bool, true, false, not, List, [], ◌++◌, bytes_eq, codes}
+use Rattle.std.specs.Prelude.{count_by, decimal, filter, flat_map, length, replicate, None}
 use Rattle.hex.specs.Hex.{encode_lower}
 use Rattle.bn_types.specs.declared.line.Line.{Line}
 use Rattle.bn_model.specs.Generating.{Made}

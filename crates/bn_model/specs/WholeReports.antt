@@ -1,7 +1,8 @@
 -- What the whole program does, where no device fails: its status, the text that it writes, and
 -- what the store holds afterwards, from its words, the files and the store. The module Reporting
 -- is the part of it that is built so far.
-use Rattle.std.specs.Prelude.{ℕ, Bool, true, false, List, ◌++◌, codes, Option, Some, None, Result, Ok, Err}
+use Rattle.std.specs.Prelude.{ℕ, Bool, true, false, List, ◌++◌, codes, Option, Some, None, Result}
+use Rattle.std.specs.Prelude.{Ok, Err}
 use Rattle.bn_types.specs.declared.finish.Finish.{Finish}
 use Rattle.bn_types.specs.declared.finish.Finish.TheVariants as finish
 use Rattle.bn_types.specs.declared.record.Record.{Record}
@@ -12,7 +13,8 @@ use Rattle.bn_model.specs.Generating.{made_of}
 use Rattle.bn_model.specs.Spelling.{text_of}
 use Rattle.bn_model.specs.Storing.{Storage, committed}
 use Rattle.bn_model.specs.Summaries.{generated_start, summary}
-use Rattle.bn_model.specs.WholeRuns.{BadImage, BadScript, BadStore, Refusal, Refused, Start, course_of, finish_of, start_of}
+use Rattle.bn_model.specs.WholeRuns.{BadImage, BadScript, BadStore, Refusal, Refused, Start}
+use Rattle.bn_model.specs.WholeRuns.{course_of, finish_of, start_of}
 use Rattle.bn_model.specs.WholeRuns as before
 
 pub data Status : Type 0 where
