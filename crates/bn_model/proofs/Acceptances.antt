@@ -2,14 +2,11 @@
 use Rattle.std.proofs.Common.{◌≡◌, ℕ, zero, suc, ◌+◌, ◌<◌, ◌≤◌, ◌==◌, ◌&&◌, ◌||◌, ◌⊎◌, Bool, true}
 use Rattle.std.proofs.Common.{false, cond, not, filter, flat_map, length, get_or, List, [], ◌∷◌}
 use Rattle.std.proofs.Common.{◌++◌, map, inl, inr, refl, sym, ap, subst, ◌∙◌, arith, eqb-true}
-use Rattle.std.proofs.Common.{eq-eqb}
-use Rattle.std.proofs.lemmas.Bool.{and_parts, both_ways, cases_Bool, false_from_ne_true, not-true}
-use Rattle.std.proofs.lemmas.Bool.{not_from_false, not_from_true, or_right}
+use Rattle.std.proofs.lemmas.Bool.{and_parts, cases_Bool, not-true}
 use Rattle.std.proofs.lemmas.List.Sums.{length-filter}
 use Rattle.std.specs.Cmp.Lexicographic.{bytes_decides}
 use Rattle.std.specs.List.{list_any, range_with_len}
 use Rattle.std.specs.Prelude.{count_by}
-use Rattle.std.specs.Str.{bytes_eq}
 use Rattle.bn_types.specs.declared.decl.Decl.{Decl}
 use Rattle.bn_types.specs.declared.digest.Digest.{Digest}
 use Rattle.bn_types.specs.declared.gpn.Gpn.{Gpn}
@@ -17,16 +14,15 @@ use Rattle.bn_types.specs.declared.mod_id.ModId.{ModId}
 use Rattle.bn_types.specs.declared.row.Row.{Row}
 use Rattle.bn_types.specs.declared.sort.Sort.{Sort}
 use Rattle.bn_types.specs.declared.sort.Sort.TheVariants.{Private, Offer, Accept}
-use Rattle.bn_model.specs.declared.owner.Owner.{Owner}
 use Rattle.bn_model.specs.Bits.{is_set}
 use Rattle.bn_model.specs.Launching.{has_identity, is_accept, is_identity, is_named_partner}
 use Rattle.bn_model.specs.Launching.{names_partner, zero_digest}
-use Rattle.bn_model.specs.Owners.{Claim, claim_by, claims, claims_by, is_live, is_on, is_own}
+use Rattle.bn_model.specs.Owners.{Claim, claim_by, claims, claims_by, is_live, is_own}
 use Rattle.bn_model.specs.Rows.{Enclave, enclave_of}
-use Rattle.bn_model.specs.Soundness.{AreDistinct, AreOrdered, Ascend, GuestPagesDiffer, Has}
+use Rattle.bn_model.specs.Soundness.{AreDistinct, Ascend, GuestPagesDiffer, Has}
 use Rattle.bn_model.specs.Soundness.{HasClaims, IsOfferedBy, IsOnly, ReachesNone, accepts}
 use Rattle.bn_model.proofs.ClaimsKept.{IsNew}
-use Rattle.bn_model.proofs.LiveClaims.{has-live, has-parts, live-has, makes, one-of-id, owned}
+use Rattle.bn_model.proofs.LiveClaims.{has-parts, live-has, makes, one-of-id, owned}
 use Rattle.bn_model.proofs.MembershipLemmas.{any-has, has-any}
 use Rattle.bn_model.proofs.RowLemmas.{owner_by}
 

@@ -1,14 +1,12 @@
 -- The numbers that an instruction asks for have 64 bits.
-use Rattle.std.proofs.Common.{◌≡◌, ℕ, zero, suc, ◌+◌, ◌-◌, ◌*◌, ◌/◌, ◌%◌, ◌^◌, ◌<◌, ◌≤◌, ◌==◌, Bool}
-use Rattle.std.proofs.Common.{true, false, not, nat_lt, get_or, List, refl, sym, ap, ◌∙◌, arith}
+use Rattle.std.proofs.Common.{ℕ, suc, ◌+◌, ◌-◌, ◌*◌, ◌/◌, ◌%◌, ◌^◌, ◌<◌, ◌==◌, Bool}
+use Rattle.std.proofs.Common.{true, false, nat_lt, arith}
 use Rattle.std.proofs.Common.{◌-ℤ◌, cond}
 use Rattle.std.proofs.lemmas.Int.{ints}
 use Rattle.std.proofs.lemmas.Nat.{and_le_r, mod_below, or_lt, shr_le, xor_lt}
-use Rattle.std.specs.Int.{cast_signed, cast_unsigned, from_bool, int_shr, w8, w16, w32, w64}
-use Rattle.std.specs.Int as int
-use Rattle.std.specs.Prelude.{bit_and, bit_or, bit_xor, int_lt, ℤ, pos, negsuc, ◌<ℤ◌, ◌≤ℤ◌}
-use mir.Val.{bits, sel}
-use Rattle.bn_types.specs.Numbers.{int_width}
+use Rattle.std.specs.Int.{from_bool, int_shr}
+use Rattle.std.specs.Prelude.{int_lt, ℤ, pos, negsuc, ◌<ℤ◌}
+use mir.Val.{sel}
 use Rattle.bn_types.specs.declared.act.Act.{Act}
 use Rattle.bn_types.specs.declared.act.Act.TheVariants as act
 use Rattle.bn_types.specs.declared.csr_from.CsrFrom.{CsrFrom}
@@ -30,11 +28,11 @@ use Rattle.bn_types.specs.declared.width.Width.{Width}
 use Rattle.bn_types.specs.declared.width.Width.TheVariants.{B1, B2, B4, B8}
 use Rattle.bn_types.specs.declared.word_op.WordOp.{WordOp}
 use Rattle.bn_types.specs.declared.word_op.WordOp.TheVariants as word_op
-use Rattle.bn_model.specs.Acting.{act_of, branch_if, difference_64, holds, immediate_value, jump}
+use Rattle.bn_model.specs.Acting.{act_of, branch_if, difference_64, holds, immediate_value}
 use Rattle.bn_model.specs.Acting.{jump_if, load_value, operand, plus_immediate, register}
 use Rattle.bn_model.specs.Acting.{register_value, shift_value, sum_64, without_bit_0}
 use Rattle.bn_model.specs.Acting.{word_shift_value, word_value}
-use Rattle.bn_model.specs.InsnRanges.{FitsBits, IsInRange, IsOperand}
+use Rattle.bn_model.specs.InsnRanges.{IsInRange, IsOperand}
 use Rattle.bn_model.specs.Soundness.{AreRegisters}
 use Rattle.bn_model.specs.TwosComplement.{in_64_bits, sign_extension, signed_of}
 use Rattle.bn_model.proofs.RegisterLemmas.{any-register}

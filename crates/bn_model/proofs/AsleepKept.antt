@@ -1,6 +1,6 @@
 -- A hart that isn't started runs no module, after each turn.
-use Rattle.std.proofs.Common.{◌≡◌, ℕ, zero, suc, ◌<◌, Bool, true, false, length, List, [], ◌∷◌, set}
-use Rattle.std.proofs.Common.{refl, ap, ◌∙◌}
+use Rattle.std.proofs.Common.{◌≡◌, ℕ, zero, suc, Bool, true, false, List, [], ◌∷◌, set}
+use Rattle.std.proofs.Common.{refl, ap}
 use Rattle.std.proofs.lemmas.List.Elements.{All-cons, All-head, All-nil, All-set, All-tail}
 use Rattle.std.specs.List.{All}
 use Rattle.bn_types.specs.declared.cause.Cause.{Cause}
@@ -12,7 +12,7 @@ use Rattle.bn_model.specs.Decision.{SetWord}
 use Rattle.bn_model.specs.Each.{each}
 use Rattle.bn_model.specs.Bits.{is_set}
 use Rattle.bn_model.specs.Soundness.{AreAsleep}
-use Rattle.bn_model.specs.State.{Hart, State, hart_after_answer, hart_after_set, started_hart}
+use Rattle.bn_model.specs.State.{Hart, State, hart_after_answer, started_hart}
 use Rattle.bn_model.specs.State.{untrusted}
 use Rattle.bn_model.specs.Stepping.{after_trap_in, after_turn, hart_by_mask, hart_if_named}
 use Rattle.bn_model.specs.Walking.{access_fault}

@@ -1,6 +1,6 @@
 -- Declarations stay in order, when modules go and when one is launched.
-use Rattle.std.proofs.Common.{◌≡◌, ℕ, zero, suc, ◌+◌, ◌<◌, ◌≤◌, ◌||◌, ◌⊎◌, Bool, true, false}
-use Rattle.std.proofs.Common.{length, List, [], ◌∷◌, ◌++◌, map, inl, inr, refl, sym, ap, subst, ◌∙◌}
+use Rattle.std.proofs.Common.{◌≡◌, ℕ, zero, ◌<◌, ◌≤◌, ◌⊎◌, true, false}
+use Rattle.std.proofs.Common.{List, [], ◌∷◌, ◌++◌, inl, inr, refl, sym, ap, subst, ◌∙◌}
 use Rattle.std.proofs.Common.{arith}
 use Rattle.std.proofs.lemmas.Bool.{both_ways, cases_Bool, false_from_ne_true}
 use Rattle.bn_types.specs.declared.decl.Decl.{Decl}
@@ -17,7 +17,7 @@ use Rattle.bn_model.specs.Soundness.{HasClaims, IsOfferedBy, ReachesNone}
 use Rattle.bn_model.proofs.LiveClaims.{IsMade, claim-parts, from-map, has-between, has-live}
 use Rattle.bn_model.proofs.LiveClaims.{has-parts, live-has, made, makes, makes-claim, one-of-id}
 use Rattle.bn_model.proofs.LiveClaims.{owned}
-use Rattle.bn_model.proofs.MembershipLemmas.{has-left, has-map, has-right}
+use Rattle.bn_model.proofs.MembershipLemmas.{has-left, has-map}
 use Rattle.bn_model.proofs.RowLemmas.{owner_by}
 
 private-offer : {P : Type 0} (sort : Sort) → sort ≡ Private → sort ≡ Offer → P

@@ -1,9 +1,8 @@
 -- The numbers of a CSR instruction have 64 bits.
-use Rattle.std.proofs.Common.{◌≡◌, ℕ, ◌+◌, ◌-◌, ◌*◌, ◌%◌, ◌^◌, ◌<◌, ◌≤◌, Bool, true, false, Option}
+use Rattle.std.proofs.Common.{◌≡◌, ℕ, ◌+◌, ◌*◌, ◌%◌, ◌^◌, ◌<◌, ◌≤◌, Bool, true, false, Option}
 use Rattle.std.proofs.Common.{Some, None, refl, arith}
 use Rattle.std.proofs.lemmas.Nat.{and_le_l, or_lt}
-use Rattle.std.specs.Int.{bit_not, from_bool, w64}
-use Rattle.std.specs.Prelude.{bit_and, bit_or}
+use Rattle.std.specs.Int.{bit_not, w64}
 use Rattle.bn_types.specs.declared.csr_op.CsrOp.{CsrOp}
 use Rattle.bn_types.specs.declared.csr_op.CsrOp.TheVariants.{Write, Set, Clear}
 use Rattle.bn_types.specs.declared.mode.Mode.{Mode}

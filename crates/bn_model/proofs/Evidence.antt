@@ -43,8 +43,8 @@ use Rattle.bn_model.specs.Deciding.{asked_if_started, asked_of, asked_of_denial,
 use Rattle.bn_model.specs.Deciding.{asked_of_fetch, asked_of_insn, asked_of_interrupt}
 use Rattle.bn_model.specs.Deciding.{asked_of_stopped, caller_of, csr_decision, decision_by_state}
 use Rattle.bn_model.specs.Deciding.{decision_of_act, decision_of_asked, decision_of_ask}
-use Rattle.bn_model.specs.Deciding.{decision_of_call, decision_of_csr, decision_of_denial}
-use Rattle.bn_model.specs.Deciding.{decision_of_ecall, decision_of_evict, decision_of_fault}
+use Rattle.bn_model.specs.Deciding.{decision_of_call, decision_of_denial}
+use Rattle.bn_model.specs.Deciding.{decision_of_ecall, decision_of_evict}
 use Rattle.bn_model.specs.Deciding.{decision_of_get, decision_of_hart, decision_of_launch}
 use Rattle.bn_model.specs.Deciding.{decision_of_load, decision_of_secure, decision_of_set}
 use Rattle.bn_model.specs.Deciding.{decision_of_store, identity_of, is_entry, is_idle, is_started}

@@ -1,13 +1,12 @@
 -- Harts keep their shapes and ranges, after each turn.
-use Rattle.std.proofs.Common.{◌≡◌, ℕ, zero, suc, ◌+◌, ◌-◌, ◌%◌, ◌^◌, ◌<◌, ◌≤◌, ◌==◌, Bool, true}
-use Rattle.std.proofs.Common.{false, length, List, [], ◌∷◌, ◌++◌, set, Option, Some, None, refl}
-use Rattle.std.proofs.Common.{sym, ap, subst, ◌∙◌, arith, eqb-true}
+use Rattle.std.proofs.Common.{◌≡◌, ℕ, zero, suc, ◌+◌, ◌^◌, ◌<◌, ◌≤◌, Bool, true}
+use Rattle.std.proofs.Common.{false, length, List, ◌∷◌, set, Option, Some, None, refl}
+use Rattle.std.proofs.Common.{sym, subst, arith, eqb-true}
 use Rattle.std.proofs.lemmas.List.Elements.{All-head, All-set, All-weaker}
 use Rattle.std.specs.List.{All}
 use Rattle.bn_types.specs.declared.cause.Cause.{Cause}
 use Rattle.bn_types.specs.declared.mod_id.ModId.{ModId}
 use Rattle.bn_types.specs.declared.reg.Reg.{Reg}
-use Rattle.bn_types.specs.declared.regs.Regs.{Regs}
 use Rattle.bn_types.specs.declared.row.Row.{Row}
 use Rattle.bn_types.specs.declared.saved_frame.SavedFrame.{SavedFrame}
 use Rattle.bn_model.specs.CsrFile.{CsrFile}
@@ -16,7 +15,6 @@ use Rattle.bn_model.specs.Decision.{Decision, Rest, Trap, Deny, Next, Set, Jump,
 use Rattle.bn_model.specs.Decision.{ReturnFromTrap, Put, Answer, ShutDown, SetTimer, TakeKey, NoKey}
 use Rattle.bn_model.specs.Decision.{Start, Send, Refuse, Launch, Call, Return, Resume, Evict, Tell}
 use Rattle.bn_model.specs.Decision.{SetWord}
-use Rattle.bn_model.specs.Each.{each}
 use Rattle.bn_model.specs.Bits.{is_set}
 use Rattle.bn_model.specs.Refusals.{minus_in_64_bits}
 use Rattle.bn_model.specs.Rows.{back_of, enclaves, has_id, row_of, saved_of}
@@ -25,7 +23,7 @@ use Rattle.bn_model.specs.State.{Hart, State, a0, a1, hart_after_answer, hart_af
 use Rattle.bn_model.specs.State.{hart_after_csr, hart_after_jump, hart_after_next}
 use Rattle.bn_model.specs.State.{hart_after_resume, hart_after_return, hart_after_set}
 use Rattle.bn_model.specs.State.{hart_after_software, hart_after_sret, hart_after_stop}
-use Rattle.bn_model.specs.State.{hart_after_timer, hart_after_trap, hart_at, started_hart}
+use Rattle.bn_model.specs.State.{hart_after_timer, hart_after_trap, started_hart}
 use Rattle.bn_model.specs.State.{with_register}
 use Rattle.bn_model.specs.Stepping.{after_trap_in, after_turn, hart_by_mask, hart_if_named}
 use Rattle.bn_model.specs.Stepping.{page_address}

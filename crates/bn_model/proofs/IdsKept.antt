@@ -1,5 +1,5 @@
 -- Ids and identities stay apart.
-use Rattle.std.proofs.Common.{◌≡◌, ℕ, zero, suc, ◌+◌, ◌<◌, ◌≤◌, ◌||◌, Bool, true, false, cond}
+use Rattle.std.proofs.Common.{◌≡◌, ℕ, zero, ◌+◌, ◌<◌, ◌≤◌, Bool, true, false, cond}
 use Rattle.std.proofs.Common.{length, List, [], ◌∷◌, ◌++◌, map, filter, refl, sym, ap, subst, ◌∙◌}
 use Rattle.std.proofs.Common.{arith, length-append}
 use Rattle.std.proofs.lemmas.Bool.{both_ways, or_parts}
@@ -12,16 +12,16 @@ use Rattle.bn_types.specs.declared.judged.Judged.{Judged}
 use Rattle.bn_types.specs.declared.row.Row.{Row}
 use Rattle.bn_model.specs.Decision.{Decision}
 use Rattle.bn_model.specs.Evicting.{evicted_rows, rows_left, stays}
-use Rattle.bn_model.specs.Launching.{has_identity, is_identity, judged_of}
+use Rattle.bn_model.specs.Launching.{has_identity, is_identity}
 use Rattle.bn_model.specs.Memory.{visible}
 use Rattle.bn_model.specs.Rows.{Enclave, enclave_of, enclaves, new_row}
 use Rattle.bn_model.specs.Soundness.{AreDistinct, Ascend, HasIds, IsOnly}
 use Rattle.bn_model.specs.State.{Hart, State, memory}
 use Rattle.bn_model.specs.Stepping.{after_turn}
 use Rattle.bn_model.proofs.Chains.{length-thinned}
-use Rattle.bn_model.proofs.Evidence.{Holds, Launches}
+use Rattle.bn_model.proofs.Evidence.{Holds}
 use Rattle.bn_model.proofs.Judgements.{IsJudged, judgement-known}
-use Rattle.bn_model.proofs.TurnKinds.{IsSteady, by-kind}
+use Rattle.bn_model.proofs.TurnKinds.{by-kind}
 
 -- ---- rows that go
 

@@ -1,12 +1,12 @@
 -- What a launched module is by itself: its entries and its identity.
-use Rattle.std.proofs.Common.{◌≡◌, ℕ, zero, suc, ◌+◌, ◌-◌, ◌*◌, ◌/◌, ◌%◌, ◌^◌, ◌<◌, ◌≤◌, ◌==◌, ◌&&◌}
-use Rattle.std.proofs.Common.{Bool, true, false, length, List, [], ◌∷◌, ◌++◌, drop, get_or, take}
+use Rattle.std.proofs.Common.{◌≡◌, ℕ, zero, suc, ◌+◌, ◌-◌, ◌*◌, ◌/◌, ◌%◌, ◌^◌, ◌<◌, ◌≤◌, ◌==◌}
+use Rattle.std.proofs.Common.{Bool, true, false, length, List, ◌++◌, drop, take}
 use Rattle.std.proofs.Common.{slice_get, Option, Some, None, option_map, refl, sym, ap, subst, ◌∙◌}
 use Rattle.std.proofs.Common.{arith, length-append, length-drop, leb-true}
 use Rattle.std.proofs.lemmas.Bool.{and_parts}
 use Rattle.std.proofs.lemmas.List.{length-take-le}
 use Rattle.std.proofs.lemmas.List.Elements.{All-append, All-cons, All-drop, All-get_or, All-nil}
-use Rattle.std.proofs.lemmas.List.Elements.{All-same, All-take, All-weaker}
+use Rattle.std.proofs.lemmas.List.Elements.{All-take, All-weaker}
 use Rattle.std.proofs.lemmas.Nat.{mod_below}
 use Rattle.std.proofs.lemmas.Option.{get_or_from_slice_get, none-some, same_Some}
 use Rattle.std.specs.Int.{bytes_high_first, byte_at}
@@ -17,12 +17,12 @@ use Rattle.bn_types.specs.declared.decl.Decl.{Decl}
 use Rattle.bn_types.specs.declared.digest.Digest.{Digest}
 use Rattle.bn_types.specs.declared.judged.Judged.{Judged}
 use Rattle.bn_model.specs.declared.owner.Owner.{Owner}
-use Rattle.bn_model.specs.Launching.{bytes_if_readable, bytes_on, free_page, identity}
+use Rattle.bn_model.specs.Launching.{bytes_if_readable, free_page, identity}
 use Rattle.bn_model.specs.Launching.{is_text_address, page_if_free, text_bytes}
 use Rattle.bn_model.specs.Memory.{Memory, readable_if, readable_page, visible}
 use Rattle.bn_model.specs.Owners.{is_owned}
 use Rattle.bn_model.specs.Rows.{Enclave}
-use Rattle.bn_model.specs.SegmentLaws.{AreBytes, IsEntry, IsSegment}
+use Rattle.bn_model.specs.SegmentLaws.{AreBytes, IsEntry}
 use Rattle.bn_model.specs.Soundness.{IsPc}
 use Rattle.bn_types.specs.Visible.{state_of}
 use Rattle.bn_model.proofs.EachLemmas.{get-each}

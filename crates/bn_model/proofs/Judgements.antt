@@ -1,6 +1,6 @@
 -- What is known of a launch that isn't refused.
-use Rattle.std.proofs.Common.{◌≡◌, ℕ, ◌<◌, ◌≤◌, ◌==◌, ◌||◌, Bool, true, false, not, nat_le, length}
-use Rattle.std.proofs.Common.{List, [], ◌∷◌, map, Option, Some, None, Result, Ok, Err, refl, sym}
+use Rattle.std.proofs.Common.{◌≡◌, ℕ, ◌<◌, Bool, true, false, not, nat_le, length}
+use Rattle.std.proofs.Common.{List, map, Option, Some, None, Result, Ok, Err, refl, sym}
 use Rattle.std.proofs.Common.{ap, ◌∙◌, leb-false}
 use Rattle.std.proofs.lemmas.Bool.{not-true}
 use Rattle.std.specs.List.{list_all, list_any}
@@ -11,12 +11,12 @@ use Rattle.bn_types.specs.declared.launch_refused.LaunchRefused.{LaunchRefused}
 use Rattle.bn_types.specs.declared.launch_refused.LaunchRefused.TheVariants as refused
 use Rattle.bn_types.specs.declared.seg_fault.SegFault.{SegFault}
 use Rattle.bn_types.specs.declared.segment.Segment.{Segment}
-use Rattle.bn_model.specs.Launching.{Text, decl_of, decls_of, decls_unless_refused, has_identity}
+use Rattle.bn_model.specs.Launching.{decl_of, decls_of, has_identity}
 use Rattle.bn_model.specs.Launching.{has_source, have_alias, identity, is_reached, is_text_address}
 use Rattle.bn_model.specs.Launching.{judged_of, judgement, judgement_by_decls}
-use Rattle.bn_model.specs.Launching.{judgement_by_identity, judgement_by_segment, judgement_by_text}
+use Rattle.bn_model.specs.Launching.{judgement_by_segment, judgement_by_text}
 use Rattle.bn_model.specs.Launching.{page_if_free, page_of_address, refused_unless, takes_owned}
-use Rattle.bn_model.specs.Launching.{text_at, text_bytes, text_if_mapped}
+use Rattle.bn_model.specs.Launching.{text_bytes, text_if_mapped}
 use Rattle.bn_model.specs.Rows.{Enclave}
 use Rattle.bn_model.specs.Segments.{segment_of}
 

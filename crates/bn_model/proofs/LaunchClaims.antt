@@ -1,5 +1,5 @@
 -- What a launched module declares, beside the live ones.
-use Rattle.std.proofs.Common.{◌≡◌, ℕ, zero, suc, ◌+◌, ◌^◌, ◌<◌, ◌≤◌, ◌==◌, ◌&&◌, ◌||◌, ◌⊎◌, Bool}
+use Rattle.std.proofs.Common.{◌≡◌, ℕ, zero, suc, ◌+◌, ◌^◌, ◌<◌, ◌≤◌, ◌==◌, ◌&&◌, ◌⊎◌, Bool}
 use Rattle.std.proofs.Common.{true, false, length, get_or, List, [], ◌∷◌, map, find, slice_get}
 use Rattle.std.proofs.Common.{Option, Some, None, is_some, option_map, unwrap_or, Result, Ok, Err}
 use Rattle.std.proofs.Common.{inl, inr, refl, sym, ap, ap₂, subst, ◌∙◌, arith, eqb-true, eq-eqb}
@@ -13,25 +13,22 @@ use Rattle.bn_types.specs.declared.digest.Digest.{Digest}
 use Rattle.bn_types.specs.declared.gpn.Gpn.{Gpn}
 use Rattle.bn_types.specs.declared.judged.Judged.{Judged}
 use Rattle.bn_types.specs.declared.mod_id.ModId.{ModId}
-use Rattle.bn_types.specs.declared.page_state.PageState.{PageState}
-use Rattle.bn_types.specs.declared.page_state.PageState.TheVariants.{Outside, Owned, Free}
-use Rattle.bn_types.specs.declared.rights.Rights.{Rights}
+use Rattle.bn_types.specs.declared.page_state.PageState.TheVariants.{Owned}
 use Rattle.bn_types.specs.declared.seg_page.SegPage.{SegPage}
 use Rattle.bn_types.specs.declared.segment.Segment.{Segment}
 use Rattle.bn_types.specs.declared.sort.Sort.{Sort}
 use Rattle.bn_types.specs.declared.sort.Sort.TheVariants.{Private, Offer, Accept}
 use Rattle.bn_model.specs.declared.owner.Owner.{Owner}
-use Rattle.bn_model.specs.Each.{each}
 use Rattle.bn_model.specs.Launching.{address_of_page, decl_of, has_source, have_alias, id_if_some}
 use Rattle.bn_model.specs.Launching.{includes, is_backed_decl, is_offer, is_offered, is_owned_state}
-use Rattle.bn_model.specs.Launching.{is_reached, is_same_page, judged_of, names_partner, offerer}
+use Rattle.bn_model.specs.Launching.{is_reached, is_same_page, names_partner, offerer}
 use Rattle.bn_model.specs.Launching.{offers, page_if_in_ram, page_in_ram, page_of_address}
 use Rattle.bn_model.specs.Launching.{page_of_leaf, source_if, takes_owned, with_source}
 use Rattle.bn_model.specs.Memory.{readable_if, readable_page, visible}
 use Rattle.bn_model.specs.Owners.{Claim, claims, is_on, is_own, is_owned}
 use Rattle.bn_model.specs.Rows.{Enclave}
 use Rattle.bn_model.specs.Segments.{ascends, page_count, page_in, segment_in, segment_of, vpn_in}
-use Rattle.bn_model.specs.Soundness.{AreOrdered, GuestPagesDiffer, Has, IsOfferedBy, ReachesNone}
+use Rattle.bn_model.specs.Soundness.{GuestPagesDiffer, Has, IsOfferedBy, ReachesNone}
 use Rattle.bn_model.specs.Soundness.{VirtualPagesAscend}
 use Rattle.bn_model.specs.Walking.{Landing, WalkFault, guest_page, leaf_of}
 use Rattle.bn_model.proofs.ClaimsKept.{IsNew}

@@ -1,6 +1,6 @@
 -- A hart that runs a module is in the module's mode, after each turn.
-use Rattle.std.proofs.Common.{◌≡◌, ℕ, zero, suc, ◌<◌, ◌≤◌, ◌&&◌, ◌==◌, ◌⊎◌, Bool, true, false, find}
-use Rattle.std.proofs.Common.{length, get_or, List, [], ◌∷◌, ◌++◌, map, set, Option, Some, None}
+use Rattle.std.proofs.Common.{◌≡◌, ℕ, zero, suc, ◌<◌, ◌≤◌, ◌⊎◌, Bool, true, false}
+use Rattle.std.proofs.Common.{length, get_or, List, [], ◌∷◌, ◌++◌, set, Option, Some, None}
 use Rattle.std.proofs.Common.{option_map, inl, inr, refl, sym, ap, subst, ◌∙◌, arith, ne_eqb}
 use Rattle.std.proofs.lemmas.Bool.{cases_Bool}
 use Rattle.std.proofs.lemmas.List.Elements.{All-from_get_or, All-head, All-set, All-tail}
@@ -21,24 +21,23 @@ use Rattle.bn_model.specs.Decision.{Decision, Rest, Trap, Deny, Next, Set, Jump,
 use Rattle.bn_model.specs.Decision.{ReturnFromTrap, Put, Answer, ShutDown, SetTimer, TakeKey, NoKey}
 use Rattle.bn_model.specs.Decision.{Start, Send, Refuse, Launch, Call, Return, Resume, Evict, Tell}
 use Rattle.bn_model.specs.Decision.{SetWord}
-use Rattle.bn_model.specs.Each.{each}
 use Rattle.bn_model.specs.Bits.{is_set}
 use Rattle.bn_model.specs.Evicting.{evicted_rows, is_among, rows_left}
 use Rattle.bn_model.specs.Rows.{Enclave, enclave_of, enclaves, has_id, new_row, row_of, saved_of}
 use Rattle.bn_model.specs.Rows.{with_row}
 use Rattle.bn_model.specs.Soundness.{AreStates, Has, HasIds, HasModeOf, HaveModes, IsRow, SavedFits}
-use Rattle.bn_model.specs.Soundness.{module_of, state_at, state_if_some}
+use Rattle.bn_model.specs.Soundness.{module_of, state_if_some}
 use Rattle.bn_model.specs.State.{Hart, State, frame_of, hart_after_answer, hart_after_call}
 use Rattle.bn_model.specs.State.{hart_after_resume, hart_after_return, hart_after_set}
 use Rattle.bn_model.specs.State.{hart_after_sret, hart_after_stop, hart_after_trap, resting_hart}
-use Rattle.bn_model.specs.State.{started_hart, untrusted}
+use Rattle.bn_model.specs.State.{started_hart}
 use Rattle.bn_model.specs.Stepping.{after_trap_in, after_turn, frame_of_call, hart_by_mask}
 use Rattle.bn_model.specs.Stepping.{hart_if_named, page_address}
 use Rattle.bn_model.specs.Switching.{frame_of_caller, is_mode, row_after_resume, row_after_stop}
 use Rattle.bn_model.specs.Switching.{rows_after_call, rows_after_return}
 use Rattle.bn_model.specs.Walking.{access_fault}
 use Rattle.bn_model.proofs.AsleepKept.{All-each}
-use Rattle.bn_model.proofs.Evidence.{Calls, Evicts, Holds, Launches, Resumes, Returns}
+use Rattle.bn_model.proofs.Evidence.{Holds, Returns}
 use Rattle.bn_model.proofs.MembershipLemmas.{has-find}
 use Rattle.bn_model.proofs.RestingLemmas.{left-row}
 use Rattle.bn_model.proofs.RowLemmas.{enclaves-with_row}

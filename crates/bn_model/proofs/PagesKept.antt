@@ -1,18 +1,18 @@
 -- Pages, keys and records keep their sizes and ranges, after each turn.
-use Rattle.std.proofs.Common.{◌≡◌, ℕ, zero, suc, ◌+◌, ◌-◌, ◌*◌, ◌%◌, ◌^◌, ◌<◌, ◌≤◌, ◌==◌, ◌⊎◌, Bool}
-use Rattle.std.proofs.Common.{true, false, length, List, [], ◌∷◌, ◌++◌, drop, get_or, replicate}
-use Rattle.std.proofs.Common.{set, take, slice_get, Option, Some, None, option_map, Result, Ok, Err}
+use Rattle.std.proofs.Common.{◌≡◌, ℕ, zero, suc, ◌+◌, ◌-◌, ◌%◌, ◌^◌, ◌<◌, ◌≤◌, ◌==◌, ◌⊎◌, Bool}
+use Rattle.std.proofs.Common.{true, false, length, List, [], ◌∷◌, ◌++◌, drop}
+use Rattle.std.proofs.Common.{take, slice_get, Option, Some, None, option_map, Result, Ok, Err}
 use Rattle.std.proofs.Common.{inl, inr, refl, sym, ap, subst, ◌∙◌, arith, eqb-true, length-append}
-use Rattle.std.proofs.Common.{length-drop, length-set, ltb-true}
+use Rattle.std.proofs.Common.{length-drop, ltb-true}
 use Rattle.std.proofs.lemmas.Bool.{cases_lt}
 use Rattle.std.proofs.lemmas.List.{length-replicate, length-take-le, set_past}
-use Rattle.std.proofs.lemmas.List.Elements.{All-append, All-cons, All-drop, All-get_or, All-head}
+use Rattle.std.proofs.lemmas.List.Elements.{All-append, All-cons, All-drop, All-get_or}
 use Rattle.std.proofs.lemmas.List.Elements.{All-nil, All-push, All-replicate, All-set, All-tail}
 use Rattle.std.proofs.lemmas.List.Elements.{All-take}
 use Rattle.std.specs.Int.{byte_at, bytes_low_first}
 use Rattle.std.specs.List.{All, list_any}
 use Rattle.std.specs.Prelude.{nat_lt}
-use Rattle.bn_types.specs.Numbers.{bytes_of, int_width, low_bytes, page_at, with_number, zero_page}
+use Rattle.bn_types.specs.Numbers.{bytes_of, low_bytes, page_at, with_number, zero_page}
 use Rattle.bn_types.specs.declared.asker.Asker.{Asker}
 use Rattle.bn_types.specs.declared.cause.Cause.{Cause}
 use Rattle.bn_types.specs.declared.kind.Kind.{Kind}
@@ -22,7 +22,7 @@ use Rattle.bn_types.specs.declared.width.Width.{Width}
 use Rattle.bn_types.specs.declared.width.Width.TheVariants.{B1, B2, B4, B8}
 use Rattle.bn_model.specs.declared.owner.Owner.{Owner}
 use Rattle.bn_model.specs.declared.place.Place.{Place}
-use Rattle.bn_model.specs.Accessing.{access, is_aligned, pages_with, place_by_walk}
+use Rattle.bn_model.specs.Accessing.{access, pages_with, place_by_walk}
 use Rattle.bn_model.specs.Accessing.{place_if_admitted, place_if_aligned, place_if_in_ram, place_on}
 use Rattle.bn_model.specs.Accessing.{walk_by}
 use Rattle.bn_model.specs.Admission.{admits}

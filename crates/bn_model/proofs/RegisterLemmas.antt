@@ -1,19 +1,17 @@
 -- Registers, addresses and CSRs keep their shapes and ranges.
-use Rattle.std.proofs.Common.{◌≡◌, ℕ, zero, suc, ◌+◌, ◌-◌, ◌*◌, ◌%◌, ◌^◌, ◌<◌, ◌≤◌, ◌==◌, ◌⊎◌, Bool}
-use Rattle.std.proofs.Common.{true, false, length, List, [], ◌∷◌, ◌++◌, drop, get_or, replicate}
-use Rattle.std.proofs.Common.{set, take, inl, inr, refl, sym, ap, subst, ◌∙◌, arith, length-append}
+use Rattle.std.proofs.Common.{◌≡◌, ℕ, ◌+◌, ◌-◌, ◌%◌, ◌^◌, ◌<◌, ◌≤◌, ◌==◌, ◌⊎◌, Bool}
+use Rattle.std.proofs.Common.{true, false, length, List, ◌++◌, drop, get_or, replicate}
+use Rattle.std.proofs.Common.{set, take, inl, inr, refl, sym, subst, ◌∙◌, arith, length-append}
 use Rattle.std.proofs.Common.{length-drop, length-set}
 use Rattle.std.proofs.lemmas.Bool.{cases_lt, eqb-false}
 use Rattle.std.proofs.lemmas.List.{get_or-set_other, get_or_past, length-replicate, length-take-le}
 use Rattle.std.proofs.lemmas.List.Elements.{All-append, All-drop, All-get_or, All-replicate}
 use Rattle.std.proofs.lemmas.List.Elements.{All-set, All-take}
-use Rattle.std.specs.List.{All}
 use Rattle.bn_types.specs.Registers.{zero_frame, zero_registers}
 use Rattle.bn_types.specs.declared.cause.Cause.{Cause}
 use Rattle.bn_types.specs.declared.mode.Mode.{Mode}
 use Rattle.bn_types.specs.declared.reg.Reg.{Reg}
 use Rattle.bn_types.specs.declared.regs.Regs.{Regs}
-use Rattle.bn_types.specs.declared.saved_frame.SavedFrame.{SavedFrame}
 use Rattle.bn_model.specs.CsrFile.{CsrFile, reset_csrs}
 use Rattle.bn_model.specs.Soundness.{AreCsrs, AreRegisters, IsFrame, IsPc}
 use Rattle.bn_model.specs.State.{answer_registers, argument_registers, next_pc, one_more}

@@ -1,10 +1,10 @@
 -- Rows keep their shapes, after each turn.
 use Rattle.std.proofs.Common.{◌≡◌, ℕ, zero, suc, ◌^◌, ◌<◌, ◌≤◌, ◌⊎◌, Bool, true, false, length}
-use Rattle.std.proofs.Common.{List, [], ◌∷◌, ◌++◌, map, set, Option, Some, None, inl, inr, refl}
+use Rattle.std.proofs.Common.{List, [], ◌∷◌, map, Option, Some, inl, inr, refl}
 use Rattle.std.proofs.Common.{sym, ap, subst, ◌∙◌, arith, eqb-true}
 use Rattle.std.proofs.lemmas.List.Elements.{All-cons, All-filter, All-head, All-nil, All-push}
 use Rattle.std.proofs.lemmas.List.Elements.{All-tail}
-use Rattle.std.proofs.lemmas.Option.{none-some, same_Some}
+use Rattle.std.proofs.lemmas.Option.{same_Some}
 use Rattle.std.specs.List.{All}
 use Rattle.bn_types.specs.Registers.{zero_frame}
 use Rattle.bn_types.specs.declared.cause.Cause.{Cause}
@@ -16,14 +16,12 @@ use Rattle.bn_types.specs.declared.row.Row.{Row}
 use Rattle.bn_types.specs.declared.row_state.RowState.{RowState}
 use Rattle.bn_types.specs.declared.row_state.RowState.TheVariants.{Idle, Running, Waiting, Stopped}
 use Rattle.bn_types.specs.declared.saved_frame.SavedFrame.{SavedFrame}
-use Rattle.bn_model.specs.Decision.{Decision, Rest, Trap, Deny, Next, Set, Jump, Store, Csr}
-use Rattle.bn_model.specs.Decision.{ReturnFromTrap, Put, Answer, ShutDown, SetTimer, TakeKey, NoKey}
-use Rattle.bn_model.specs.Decision.{Start, Send, Refuse, Launch, Call, Return, Resume, Evict, Tell}
-use Rattle.bn_model.specs.Decision.{SetWord}
+use Rattle.bn_model.specs.Decision.{Decision, Trap, Deny}
+use Rattle.bn_model.specs.Decision.{Launch, Call, Return, Resume, Evict}
 use Rattle.bn_model.specs.Evicting.{evicted_rows, rows_left, stays}
 use Rattle.bn_model.specs.Rows.{Enclave, change_at, change_if, enclaves, has_id, new_row, row_of}
 use Rattle.bn_model.specs.Rows.{with_row}
-use Rattle.bn_model.specs.Soundness.{AreStates, BackFits, Has, HasFrames, HasIds, HasModeOf}
+use Rattle.bn_model.specs.Soundness.{AreStates, BackFits, Has, HasIds, HasModeOf}
 use Rattle.bn_model.specs.Soundness.{IsFrame, IsHart, IsPc, IsRow, SavedFits, module_of, state_at}
 use Rattle.bn_model.specs.Soundness.{state_if_some}
 use Rattle.bn_model.specs.State.{Hart, State, frame_of}

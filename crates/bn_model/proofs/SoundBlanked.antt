@@ -1,9 +1,9 @@
 -- Blanking keeps soundness.
-use Rattle.std.proofs.Common.{◌≡◌, ℕ, zero, suc, ◌<◌, ◌≤◌, ◌&&◌, Bool, true, false, length, List}
-use Rattle.std.proofs.Common.{[], ◌∷◌, Option, Some, None, refl, sym, ap, subst, ◌∙◌, arith}
+use Rattle.std.proofs.Common.{◌≡◌, ℕ, ◌≤◌, ◌&&◌, Bool, true, false, length, List}
+use Rattle.std.proofs.Common.{refl, sym, ap, subst, arith}
 use Rattle.std.proofs.lemmas.List.Elements.{All-weaker}
 use Rattle.std.specs.List.{All}
-use Rattle.bn_types.specs.Registers.{zero_frame, zero_registers}
+use Rattle.bn_types.specs.Registers.{zero_registers}
 use Rattle.bn_types.specs.declared.mode.Mode.{Mode}
 use Rattle.bn_types.specs.declared.row.Row.{Row}
 use Rattle.bn_types.specs.declared.row_state.RowState.{RowState}
@@ -15,8 +15,8 @@ use Rattle.bn_model.specs.Blanking.{rests}
 use Rattle.bn_model.specs.Evicting.{zeros_if}
 use Rattle.bn_model.specs.Owners.{is_live, is_private_page}
 use Rattle.bn_model.specs.Rows.{Enclave, enclaves, owners, row_of, with_row}
-use Rattle.bn_model.specs.Soundness.{AreStates, BackFits, HasClaims, HasFewAcceptances, HasIds}
-use Rattle.bn_model.specs.Soundness.{HasModeOf, IsFrame, IsRow, IsSound, SavedFits, caller_at}
+use Rattle.bn_model.specs.Soundness.{HasClaims, HasFewAcceptances, HasIds}
+use Rattle.bn_model.specs.Soundness.{HasModeOf, IsRow, IsSound, SavedFits, caller_at}
 use Rattle.bn_model.specs.Soundness.{caller_if_some, module_of, state_at, state_if_some}
 use Rattle.bn_model.specs.State.{Hart, State}
 use Rattle.bn_model.proofs.AsleepKept.{All-each}

@@ -1,11 +1,11 @@
 -- Every event keeps soundness.
-use Rattle.std.proofs.Common.{◌≡◌, ℕ, zero, suc, ◌+◌, ◌<◌, ◌≤◌, length, List, ◌∷◌, [], ◌++◌, refl}
-use Rattle.std.proofs.Common.{sym, ap, subst, ◌∙◌, arith}
+use Rattle.std.proofs.Common.{◌≡◌, ℕ, ◌+◌, ◌<◌, ◌≤◌, length, List, ◌∷◌, [], ◌++◌, refl}
+use Rattle.std.proofs.Common.{sym, subst, arith}
 use Rattle.bn_types.specs.declared.event.Event.{Event}
 use Rattle.bn_types.specs.declared.event.Event.TheVariants.{Turn, Key, Poke, Peek}
 use Rattle.bn_types.specs.declared.judged.Judged.{Judged}
 use Rattle.bn_types.specs.declared.row.Row.{Row}
-use Rattle.std.proofs.lemmas.List.{length-set, map-append}
+use Rattle.std.proofs.lemmas.List.{length-set}
 use Rattle.std.proofs.lemmas.List.Elements.{All-weaker}
 use Rattle.std.specs.List.{All}
 use Rattle.std.specs.Prelude.{Option, Some, None, count_by, filter, map}
@@ -13,7 +13,7 @@ use Rattle.bn_model.specs.declared.owner.Owner.{Owner}
 use Rattle.bn_model.specs.Deciding.{decision_of, decision_of_hart}
 use Rattle.bn_model.specs.Decision.{Decision}
 use Rattle.bn_model.specs.Evicting.{evicted_rows, page_left, pages_left, rows_left, stays}
-use Rattle.bn_model.specs.Memory.{Memory, visible}
+use Rattle.bn_model.specs.Memory.{visible}
 use Rattle.bn_model.specs.Owners.{claims}
 use Rattle.bn_model.specs.Records.{AreRecords}
 use Rattle.bn_model.specs.Rows.{Enclave, enclave_of, enclaves, new_row, owners}
@@ -41,7 +41,7 @@ use Rattle.bn_model.proofs.RowLemmas.{owner_by, owners-enclaves}
 use Rattle.bn_model.proofs.RowsKept.{turn-rows}
 use Rattle.bn_model.proofs.StatesKept.{turn-states}
 use Rattle.bn_model.proofs.SteppingLemmas.{clock_after, harts_after}
-use Rattle.bn_model.proofs.TurnKinds.{IsSteady, by-kind}
+use Rattle.bn_model.proofs.TurnKinds.{by-kind}
 use Rattle.bn_model.proofs.ValueRanges.{HasSmallValues, small-values}
 
 -- ---- ids

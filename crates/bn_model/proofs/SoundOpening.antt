@@ -1,25 +1,22 @@
 -- The opening state is sound.
-use Rattle.std.proofs.Common.{◌≡◌, ℕ, zero, suc, ◌+◌, ◌-◌, ◌*◌, ◌%◌, ◌^◌, ◌<◌, ◌≤◌, Bool, true}
-use Rattle.std.proofs.Common.{false, drop, get_or, length, List, [], ◌∷◌, map, replicate, take}
-use Rattle.std.proofs.Common.{Option, Some, None, refl, sym, ap, subst, ◌∙◌, arith, length-drop}
+use Rattle.std.proofs.Common.{◌≡◌, ℕ, zero, suc, ◌-◌, ◌*◌, ◌^◌, ◌<◌, ◌≤◌}
+use Rattle.std.proofs.Common.{false, drop, get_or, length, List, [], replicate}
+use Rattle.std.proofs.Common.{refl, arith, length-drop}
 use Rattle.std.proofs.lemmas.List.{length-replicate, length-take-le}
 use Rattle.std.proofs.lemmas.List.Elements.{All-cons, All-drop, All-nil, All-replicate, All-take}
 use Rattle.std.proofs.lemmas.List.FromFn.{length-map-range_with_len}
 use Rattle.std.proofs.lemmas.Option.{none-some}
-use Rattle.std.specs.List.{All, range_with_len}
-use Rattle.bn_types.specs.declared.mod_id.ModId.{ModId}
+use Rattle.std.specs.List.{All}
 use Rattle.bn_types.specs.declared.record.Record.{Record}
-use Rattle.bn_types.specs.declared.row_state.RowState.{RowState}
-use Rattle.bn_types.specs.declared.row_state.RowState.TheVariants.{Idle, Running, Waiting, Stopped}
+use Rattle.bn_types.specs.declared.row_state.RowState.TheVariants.{Idle, Running, Waiting}
 use Rattle.bn_model.specs.Opening.{Image, opening, opening_harts, page_of, pages_of}
 use Rattle.bn_model.specs.Owners.{claims}
-use Rattle.bn_model.specs.Records.{AreRecords}
 use Rattle.bn_model.specs.Rows.{enclaves, owners}
-use Rattle.bn_model.specs.Soundness.{AreAsleep, AreStates, AreSwitched, Ends, HasClaims}
-use Rattle.bn_model.specs.Soundness.{HasFewAcceptances, HasIds, HasModeOf, HaveModes, IsHart, IsPc}
-use Rattle.bn_model.specs.Soundness.{IsRow, IsSound, caller_at, module_of, state_at}
+use Rattle.bn_model.specs.Soundness.{AreAsleep, AreStates, HasClaims}
+use Rattle.bn_model.specs.Soundness.{HasFewAcceptances, HasIds, HaveModes, IsHart, IsPc}
+use Rattle.bn_model.specs.Soundness.{IsRow, IsSound, module_of}
 use Rattle.bn_model.specs.SoundnessLaws.{FitsOpening}
-use Rattle.bn_model.specs.State.{Hart, State, opening_hart, resting_hart, untrusted}
+use Rattle.bn_model.specs.State.{Hart, opening_hart, resting_hart, untrusted}
 use Rattle.bn_model.proofs.PagesKept.{IsPage}
 use Rattle.bn_model.proofs.RegisterLemmas.{AreCsrs-reset, AreRegisters-zero, IsPc-zero}
 use Rattle.bn_model.proofs.SegmentFacts.{all_of_map}

@@ -1,9 +1,8 @@
 -- Who runs, waits and is called, after each turn.
-use Rattle.std.proofs.Common.{◌≡◌, ℕ, zero, suc, ◌+◌, ◌<◌, ◌≤◌, ◌==◌, ◌&&◌, ◌||◌, ◌⊎◌, Bool, true}
-use Rattle.std.proofs.Common.{false, cond, not, List, [], ◌∷◌, ◌++◌, filter, find, length, get_or}
+use Rattle.std.proofs.Common.{◌≡◌, ℕ, zero, suc, ◌<◌, ◌≤◌, ◌==◌, ◌&&◌, ◌⊎◌, Bool, true}
+use Rattle.std.proofs.Common.{false, cond, not, List, [], ◌∷◌, ◌++◌, find, length}
 use Rattle.std.proofs.Common.{set, Option, Some, None, is_some, option_map, inl, inr, refl, sym, ap}
-use Rattle.std.proofs.Common.{subst, ◌∙◌, arith, eqb-true, eq-eqb, ne_eqb}
-use Rattle.std.proofs.lemmas.Bool.{and_parts, both_ways}
+use Rattle.std.proofs.Common.{subst, ◌∙◌, arith, eq-eqb, ne_eqb}
 use Rattle.std.proofs.lemmas.List.{get_or-set_other, get_or-set_same, length-set}
 use Rattle.std.proofs.lemmas.Option.{none-some}
 use Rattle.std.specs.List.{list_any}
@@ -23,15 +22,15 @@ use Rattle.bn_model.specs.Decision.{ReturnFromTrap, Put, Answer, ShutDown, SetTi
 use Rattle.bn_model.specs.Decision.{Start, Send, Refuse, Launch, Call, Return, Resume, Evict, Tell}
 use Rattle.bn_model.specs.Decision.{SetWord}
 use Rattle.bn_model.specs.Each.{each}
-use Rattle.bn_model.specs.Evicting.{chain, evicted_rows, is_among, rows_left}
+use Rattle.bn_model.specs.Evicting.{evicted_rows, is_among, rows_left}
 use Rattle.bn_model.specs.Owners.{is_live}
 use Rattle.bn_model.specs.Rows.{enclaves, has_id, new_row, owners, row_of, saved_of, with_row}
 use Rattle.bn_model.specs.Soundness.{AreAsleep, AreStates, Ascend, Has, HasIds, caller_at}
 use Rattle.bn_model.specs.Soundness.{caller_if_some, module_of, state_at, state_if_some}
 use Rattle.bn_model.specs.State.{Hart, State, frame_of, hart_after_answer, hart_after_call}
 use Rattle.bn_model.specs.State.{hart_after_resume, hart_after_return, hart_after_set}
-use Rattle.bn_model.specs.State.{hart_after_stop, hart_after_trap, hart_at, resting_hart}
-use Rattle.bn_model.specs.State.{started_hart, untrusted}
+use Rattle.bn_model.specs.State.{hart_after_stop, hart_after_trap, resting_hart}
+use Rattle.bn_model.specs.State.{started_hart}
 use Rattle.bn_model.specs.Stepping.{after_trap_in, after_turn, frame_of_call, hart_by_mask}
 use Rattle.bn_model.specs.Stepping.{hart_if_named, page_address}
 use Rattle.bn_model.specs.Bits.{is_set}
@@ -42,7 +41,7 @@ use Rattle.bn_model.specs.Switching.{row_after_wait, rows_after_call, rows_after
 use Rattle.bn_model.specs.Walking.{access_fault}
 use Rattle.bn_model.proofs.Chains.{chain-down, chain-up}
 use Rattle.bn_model.proofs.ClaimLemmas.{live-left}
-use Rattle.bn_model.proofs.Evidence.{Calls, Evicts, Holds, Resumes, Returns, StartsHart}
+use Rattle.bn_model.proofs.Evidence.{Calls, Evicts, Holds, Resumes, Returns}
 use Rattle.bn_model.proofs.RestingLemmas.{left-row}
 use Rattle.bn_model.proofs.RowLemmas.{Keeps, is_live-row_of, row_of-other, row_of-same, seen-same}
 use Rattle.bn_model.proofs.Switches.{by_same, called-inside, called-outside, evicted-there}

@@ -1,5 +1,5 @@
 -- Three kinds of turns: a launch, an eviction, and all others, which leave what is live.
-use Rattle.std.proofs.Common.{◌≡◌, ℕ, zero, suc, List, ◌∷◌, length, set, refl, sym, ap, ◌∙◌}
+use Rattle.std.proofs.Common.{◌≡◌, ℕ, zero, suc, List, length, refl, ◌∙◌}
 use Rattle.std.proofs.lemmas.List.{length-set}
 use Rattle.bn_types.specs.Registers.{zero_frame}
 use Rattle.bn_types.specs.declared.cause.Cause.{Cause}

@@ -1,6 +1,6 @@
 -- The numbers of what a turn comes to have 64 bits.
-use Rattle.std.proofs.Common.{◌≡◌, ℕ, zero, suc, ◌+◌, ◌*◌, ◌%◌, ◌^◌, ◌<◌, ◌≤◌, ◌==◌, ◌&&◌, ◌⊎◌}
-use Rattle.std.proofs.Common.{Bool, true, false, not, nat_lt, find, get_or, length, List, [], ◌∷◌}
+use Rattle.std.proofs.Common.{◌≡◌, ℕ, zero, suc, ◌*◌, ◌%◌, ◌^◌, ◌<◌, ◌≤◌, ◌==◌, ◌&&◌, ◌⊎◌}
+use Rattle.std.proofs.Common.{Bool, true, false, not, nat_lt, get_or, length, List, [], ◌∷◌}
 use Rattle.std.proofs.Common.{map, Option, Some, None, is_some, option_map, Result, Ok, Err, inl}
 use Rattle.std.proofs.Common.{inr, refl, sym, ap, subst, ◌∙◌, arith}
 use Rattle.std.proofs.lemmas.Bool.{cases_lt}
@@ -42,13 +42,11 @@ use Rattle.bn_types.specs.declared.set_refused.SetRefused.TheVariants.{BadIndex,
 use Rattle.bn_types.specs.declared.sort.Sort.{Sort}
 use Rattle.bn_types.specs.declared.sort.Sort.TheVariants.{Private, Offer, Accept}
 use Rattle.bn_types.specs.declared.width.Width.{Width}
-use Rattle.bn_types.specs.declared.width.Width.TheVariants.{B4, B8}
-use Rattle.bn_model.specs.declared.owner.Owner.{Owner}
+use Rattle.bn_types.specs.declared.width.Width.TheVariants.{B4}
 use Rattle.bn_model.specs.declared.place.Place.{Place}
-use Rattle.bn_model.specs.Accessing.{access, answer_of_load, fault, is_aligned, misaligned}
+use Rattle.bn_model.specs.Accessing.{access, answer_of_load, is_aligned, misaligned}
 use Rattle.bn_model.specs.Accessing.{place_by_walk, place_if_admitted, place_if_aligned}
 use Rattle.bn_model.specs.Accessing.{place_if_in_ram, place_on, walk_by}
-use Rattle.bn_model.specs.Acting.{act_of}
 use Rattle.bn_model.specs.Admission.{admits, declaration}
 use Rattle.bn_model.specs.CsrFile.{CsrDone, CsrFile, csr_done}
 use Rattle.bn_model.specs.Deciding.{asked_if_started, asked_of, asked_of_denial, asked_of_fault}
@@ -73,21 +71,19 @@ use Rattle.bn_model.specs.Hypervisor.{are_harts, ask_by, ask_of, ask_of_ipi_if, 
 use Rattle.bn_model.specs.Hypervisor.{call_of, refuse_unless}
 use Rattle.bn_model.specs.InsnRanges.{IsInRange}
 use Rattle.bn_model.specs.Interrupts.{interrupt_of, wires_of}
-use Rattle.bn_model.specs.Launching.{judgement}
-use Rattle.bn_model.specs.Legality.{illegal, inside_only, kernel_only, outside_only}
-use Rattle.bn_model.specs.Legality.{supervisor_only}
+use Rattle.bn_model.specs.Legality.{illegal}
 use Rattle.bn_model.specs.Memory.{Memory, visible}
 use Rattle.bn_model.specs.Owners.{is_live}
-use Rattle.bn_model.specs.Records.{AreRecords, IsWhole, get_word, identity_order, set_refusal}
+use Rattle.bn_model.specs.Records.{AreRecords, IsWhole, identity_order, set_refusal}
 use Rattle.bn_model.specs.Records.{word_in, words_by, words_of}
 use Rattle.bn_model.specs.declared.wires.Wires.{Wires}
 use Rattle.bn_model.specs.Refusals.{launch_code}
 use Rattle.bn_model.specs.Rows.{Enclave, enclave_of, enclaves, has_id, owners, row_of}
-use Rattle.bn_model.specs.Soundness.{AreCsrs, AreStates, Has, HasIds, IsHart, IsRow, caller_at}
-use Rattle.bn_model.specs.Soundness.{state_at, state_if_some}
+use Rattle.bn_model.specs.Soundness.{AreCsrs, AreStates, HasIds, IsHart, IsRow, caller_at}
+use Rattle.bn_model.specs.Soundness.{state_if_some}
 use Rattle.bn_model.specs.State.{Hart, State, asker, memory, value_of}
-use Rattle.bn_model.specs.Switching.{id_of_row, is_mode, stopped_at}
-use Rattle.bn_model.specs.Trapping.{first_interrupt, interrupt_if, interrupt_taken}
+use Rattle.bn_model.specs.Switching.{is_mode, stopped_at}
+use Rattle.bn_model.specs.Trapping.{first_interrupt, interrupt_if}
 use Rattle.bn_model.specs.Trapping.{takes_interrupts}
 use Rattle.bn_model.specs.Walking.{Landing, WalkFault, NoLeaf, Refused, access_fault, guest_page}
 use Rattle.bn_model.specs.Walking.{landing_if, landing_or_cause, leaf_of, page_fault, permits}
