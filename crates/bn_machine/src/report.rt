@@ -45,7 +45,8 @@ pub fn say<O: Sink>(out: &mut O, text: &[u8], status: Status) -> Status
 #[tactic(auto, unfolding(bn_model::specs::Reporting::most_image_bytes))]
 pub fn serve_file<O: Sink>(alloc: Global, order: &RunOrder<'_>, file: &[u8], out: &mut O) -> Status
     requires { CanRun order.now }
-    ensures answers { Answers result (flat.report_of_file is_built_event (Some file.now) (plain order.now))
+    ensures answers { Answers result
+        (flat.report_of_file is_built_event (Some file.now) (plain order.now))
         (O.account out.old) (O.account out.new) }
     ensures counted { CountsSinkFault result (O.account out.old).faults (O.account out.new).faults }
 {

@@ -168,7 +168,8 @@ impl Unit {
         steps: &mut Steps<L>,
     ) -> Result<(), Fault>
         requires { HasMode who.now.satp }
-        ensures answer { Completes result (access (memory_of self.old) who.now Kind.Store va width) }
+        ensures answer { Completes result
+            (access (memory_of self.old) who.now Kind.Store va width) }
         ensures stored { let m = memory_of self.old in memory_of self.new
             ≡ record m {
               pages = pages_after_store m.pages width value

@@ -58,7 +58,8 @@ impl<'a> View<'a> {
 
     /// Whether it is a page of RAM that no module owns.
     fn is_free(&self, page: Gpn) -> bool
-        ensures { result ≡ (nat_lt page.0 self.now.nest.ram && not (is_owned self.now.live page.0)) }
+        ensures { result
+            ≡ (nat_lt page.0 self.now.nest.ram && not (is_owned self.now.live page.0)) }
     {
         page.0 < self.nest.ram_pages() && !self.shadow.owned(page)
     }

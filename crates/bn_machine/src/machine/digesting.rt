@@ -21,7 +21,8 @@ impl Machine {
     #[tactic(auto, unfolding(bn_model::specs::Reporting::public_digest))]
     pub fn public_digest<L: Ledger>(&self, steps: &mut Steps<L>) -> Digest
         ensures digest { result ≡ flat.public_digest self.now.state }
-        ensures read { steps.new ≡ steps.old + 3 * count_by is_some (visible (memory self.now.state)) }
+        ensures read { steps.new
+            ≡ steps.old + 3 * count_by is_some (visible (memory self.now.state)) }
     {
         Digest(digest_pages(&self.unit.view(), self.unit.ram_pages(), steps))
     }
