@@ -1,11 +1,11 @@
 -- Program headers, one after the other.
-use Rattle.std.proofs.Common.{◌≡◌, ℕ, zero, suc, ◌+◌, ◌-◌, ◌*◌, ◌≤◌, ◌<◌, ◌&&◌, ◌||◌, Bool, true, false, List, [], ◌∷◌, length, Result, Ok, Err, nat_le, refl, sym, ◌∙◌, ap, arith}
+use Rattle.std.proofs.Common.{◌≡◌, ℕ, suc, ◌+◌, ◌-◌, ◌*◌, ◌≤◌, ◌<◌, ◌&&◌, Bool, true, false, List, [], ◌∷◌, length, Result, Ok, Err, nat_le, refl, sym, ◌∙◌, ap, arith}
 use Rattle.std.proofs.lemmas.Bool.{false≢true}
 use Rattle.std.proofs.lemmas.Bool.Decides.{nat_tests}
 use Rattle.bn_types.specs.declared.image_fault.ImageFault.{ImageFault}
 use Rattle.bn_types.specs.declared.image_sort.ImageSort.{ImageSort}
 use Rattle.bn_types.specs.declared.image_sort.ImageSort.TheVariants.{Sizes, Bytes, Range}
-use Rattle.bn_model.specs.Images.{Header, ◌>>=◌, all_checked, checked_if, counts, has_segment, header_at, header_checked, is_in_ram, places, places_from, ram_base, segment_checked, test, with_segment_if, with_segments}
+use Rattle.bn_model.specs.Images.{Header, ◌>>=◌, all_checked, counts, has_segment, header_at, header_checked, is_in_ram, places, places_from, ram_base, segment_checked, test, with_segment_if, with_segments}
 use Rattle.bn_types.specs.Numbers.{number_at}
 use Rattle.bn_types.specs.declared.width.Width.TheVariants.{B2, B8}
 use Rattle.bn_loader.specs.Segments.{Fits}

@@ -1,5 +1,5 @@
 -- Events drawn one by one.
-use Rattle.std.proofs.Common.{add-one, subst, ◌≡◌, ℕ, zero, suc, ◌+◌, ◌%◌, ◌≤◌, ◌<◌, Bool, true, false, nat_lt, List, [], ◌∷◌, ◌++◌, length, drop, drop-cons, get_or, take, replicate, map, Option, Some, None, refl, sym, ◌∙◌, ap, arith}
+use Rattle.std.proofs.Common.{add-one, subst, ◌≡◌, ℕ, zero, suc, ◌+◌, ◌%◌, ◌≤◌, ◌<◌, Bool, true, false, nat_lt, List, [], ◌∷◌, ◌++◌, length, drop, get_or, replicate, map, Option, Some, None, refl, sym, ◌∙◌, ap, arith}
 use Rattle.std.proofs.lemmas.Bool.Decides.{nat_tests}
 use Rattle.std.proofs.lemmas.Grind.{common_steps}
 use Rattle.std.specs.List.{range_with_len, flat_map}
@@ -8,8 +8,8 @@ use Rattle.bn_types.specs.declared.event.Event.{Event}
 use Rattle.bn_types.specs.declared.event.Event.TheVariants as event
 use Rattle.bn_model.specs.declared.command.Command.{Command}
 use Rattle.bn_model.specs.declared.command.Command.TheVariants.{Turn, Go, Key, Poke, Peek}
-use Rattle.bn_model.specs.Scripts.{Script, after_event, event_from, events_of, next_event, rounds, script_from}
-use Rattle.bn_script.specs.Drawing.{GoesOn, OrdersEvents, count_at, event_of, script_at, turn_at}
+use Rattle.bn_model.specs.Scripts.{Script, after_event, event_from, events_of, next_event, rounds}
+use Rattle.bn_script.specs.Drawing.{GoesOn, count_at, event_of, script_at, turn_at}
 use Rattle.bn_script.specs.Lines.{count_of}
 
 -- what is left of some turns of one hart

@@ -8,7 +8,7 @@ use Rattle.bn_types.specs.declared.script_sort.ScriptSort.{ScriptSort}
 use Rattle.bn_model.specs.declared.command.Command.{Command}
 use Rattle.bn_model.specs.Scripts.{commands_from, commands_with, joined, ordered_by, script_if}
 use Rattle.bn_script.specs.Drawing.{OrdersEvents, count_at}
-use Rattle.bn_script.specs.Lines.{commands_in, count_of, ordered, refuses, refuses_line, with_ordered}
+use Rattle.bn_script.specs.Lines.{commands_in, count_of, refuses, refuses_line, with_ordered}
 use Rattle.bn_script.specs.declared.script_error.ScriptError.{ScriptError}
 use Rattle.bn_script.specs.declared.script_error.ScriptError.TheVariants.{Fault, Memory}
 

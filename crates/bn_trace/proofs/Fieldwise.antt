@@ -1,22 +1,19 @@
 -- What a field's text spells, and what is spelled: each is the other.
-use Rattle.std.proofs.Common.{◌≡◌, ℕ, zero, suc, ℤ, pos, negsuc, ◌+◌, ◌-◌, ◌*◌, ◌/◌, ◌%◌, ◌^◌, ◌≤◌, ◌<◌, ◌==◌, ◌&&◌, Bool, true, false, List, [], ◌∷◌, ◌++◌, length, get_or, drop, Option, Some, None, Result, Ok, Err, nat_lt, nat_le, refl, sym, ◌∙◌, ap, rules, arith, subst}
+use Rattle.std.proofs.Common.{◌≡◌, ℕ, zero, suc, ℤ, pos, negsuc, ◌+◌, ◌/◌, ◌%◌, ◌^◌, ◌≤◌, ◌<◌, ◌==◌, ◌&&◌, Bool, true, false, List, [], ◌∷◌, ◌++◌, length, get_or, drop, Option, Some, None, nat_lt, nat_le, refl, ap, arith, subst}
 use Rattle.std.proofs.lemmas.Bool.{false≢true}
 use Rattle.std.proofs.lemmas.Bool.Decides.{nat_tests}
-use Rattle.std.proofs.lemmas.Fmt.{decimal_is_IsNumeral}
-use Rattle.std.proofs.lemmas.Grind.{common_steps}
-use Rattle.std.proofs.lemmas.List.Folds.{list_all-append}
 use Rattle.std.proofs.lemmas.Nat.{from_be_bytes-to_be_bytes_8}
 use Rattle.std.proofs.lemmas.Option.{none-some}
 use Rattle.std.proofs.lemmas.Slice.Eq.{bytes_eq-Decides}
 use Rattle.std.specs.Fmt.{decimal}
-use Rattle.std.specs.Int.{byte_at, bytes_high_first, from_be_bytes, to_be_bytes, w64}
+use Rattle.std.specs.Int.{byte_at, bytes_high_first, to_be_bytes, w64}
 use Rattle.std.specs.List.{list_all}
 use Rattle.std.specs.Prelude.{codes}
 use Rattle.std.specs.Str.{bytes_eq}
 use Rattle.hex.proofs.HexLemmas.{decode_sized-encode_lower}
-use Rattle.hex.specs.Hex.{decode_sized, encode_lower, encode_with, IsBytes, lower_digits}
+use Rattle.hex.specs.Hex.{encode_lower, encode_with, IsBytes, lower_digits}
 use Rattle.bn_types.proofs.NumeralLemmas.{numeral_again, numeral_parts}
-use Rattle.bn_types.specs.Numerals.{is_digit, numeral_below}
+use Rattle.bn_types.specs.Numerals.{is_digit}
 use Rattle.bn_types.specs.declared.finish.Finish.TheVariants as finish
 use Rattle.bn_types.specs.declared.kind.Kind.TheVariants as kind
 use Rattle.bn_types.specs.declared.request.Request.TheVariants as request

@@ -1,11 +1,9 @@
 -- Lines read whole.
-use Rattle.std.proofs.Common.{◌≡◌, ℕ, ◌<◌, List, [], ◌∷◌, length, drop, Option, Some, None, Result, Ok, Err, refl, sym, ◌∙◌, ap, arith}
+use Rattle.std.proofs.Common.{◌≡◌, ℕ, ◌<◌, List, [], ◌∷◌, length, None, Result, Err, refl, ap, arith}
 use Rattle.bn_types.specs.Splitting.{pieces_after, split_by}
 use Rattle.bn_types.proofs.SplittingLemmas.{length_of_pieces, some_pieces}
 use Rattle.bn_types.specs.declared.line.Line.{Line}
-use Rattle.bn_types.specs.declared.line_fault.LineFault.{LineFault}
-use Rattle.bn_model.specs.declared.head.Head.{Head}
-use Rattle.bn_model.specs.LineReading.{bytes_left, first_line, head_named, line_headed, line_in, placed, read_of}
+use Rattle.bn_model.specs.LineReading.{first_line, head_named, line_in, placed, read_of}
 
 -- a line before more text
 pub before_more : (text : List ℕ) (texts : List (List ℕ)) → 0 < length texts →

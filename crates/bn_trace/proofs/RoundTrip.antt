@@ -1,5 +1,5 @@
 -- Lines written and read back.
-use Rattle.std.proofs.Common.{◌≡◌, ℕ, zero, suc, ◌+◌, ◌≤◌, ◌<◌, ◌==◌, ◌&&◌, not, Bool, true, false, List, [], ◌∷◌, ◌++◌, append_assoc, length, take, Option, Some, None, Result, Ok, Err, nat_lt, refl, sym, ◌∙◌, ap, subst, arith}
+use Rattle.std.proofs.Common.{◌≡◌, ℕ, suc, ◌+◌, ◌≤◌, ◌<◌, ◌==◌, ◌&&◌, not, Bool, true, false, List, [], ◌∷◌, ◌++◌, append_assoc, length, take, Option, Some, None, Result, Ok, Err, nat_lt, refl, sym, ◌∙◌, ap, subst, arith}
 use Rattle.std.proofs.lemmas.Bool.{false≢true}
 use Rattle.std.proofs.lemmas.Bool.Decides.{nat_tests}
 use Rattle.std.proofs.lemmas.Grind.{common_steps}
@@ -11,7 +11,7 @@ use Rattle.std.proofs.lemmas.Slice.Eq.{bytes_eq-Decides}
 use Rattle.std.specs.Prelude.{cond}
 use Rattle.std.specs.Str.{bytes_eq}
 use Rattle.bn_types.proofs.SplittingLemmas.{pieces_joined, some_pieces}
-use Rattle.bn_types.specs.Splitting.{pieces_after, split_by, split_if}
+use Rattle.bn_types.specs.Splitting.{split_by}
 use Rattle.bn_types.specs.declared.line.Line.{Line}
 use Rattle.bn_types.specs.declared.line.Line.TheVariants as line
 use Rattle.bn_types.specs.declared.line_fault.LineFault.{LineFault}

@@ -8,8 +8,8 @@ use Rattle.std.specs.Int.{w64}
 use Rattle.std.specs.List.{list_all}
 use Rattle.std.specs.Str.{bytes_eq}
 use Rattle.bn_types.specs.Numerals.{number_if, numeral_below}
-use Rattle.bn_types.proofs.NumeralLemmas.{numeral_narrow, numeral_none, numeral_parts, numeral_spelled}
-use Rattle.bn_model.specs.LineReading.{guess, is_byte, is_in, negated, spelled_value, value_if, value_of}
+use Rattle.bn_types.proofs.NumeralLemmas.{numeral_narrow, numeral_parts, numeral_spelled}
+use Rattle.bn_model.specs.LineReading.{guess, is_byte, is_in, spelled_value, value_if, value_of}
 use Rattle.bn_model.specs.LineShapes.{Code, Decimal, Sha}
 
 pub same_bytes : (a b : List ℕ) → a ≡ b → bytes_eq a b ≡ true

@@ -1,4 +1,4 @@
-use Rattle.std.proofs.Common.{◌≡◌, Err, sym, ◌∙◌, ap, arith, rules, ◌+◌, ◌*◌}
+use Rattle.std.proofs.Common.{◌≡◌, Err, sym, ◌∙◌, ap, arith, rules}
 use Rattle.std.proofs.lemmas.Grind.{common_steps}
 use Rattle.bn_model.specs.Images as flat
 use Rattle.bn_loader.proofs.SegmentLemmas.{check_bad, check_on, check_over, places_at}

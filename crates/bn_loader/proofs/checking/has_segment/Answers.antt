@@ -1,4 +1,4 @@
-use Rattle.std.proofs.Common.{sym, ◌∙◌, ap, arith, ◌+◌, ◌*◌}
+use Rattle.std.proofs.Common.{sym, ◌∙◌, ap, arith}
 use Rattle.bn_model.specs.Images as flat
 use Rattle.bn_loader.proofs.SegmentLemmas.{places_at, segment_found, segment_on, segment_over}
 use Rattle.bn_loader.proofs.checking.has_segment.Goals as goal

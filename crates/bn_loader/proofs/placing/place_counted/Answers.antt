@@ -1,4 +1,4 @@
-use Rattle.std.proofs.Common.{◌≡◌, sym, ◌∙◌, ap, length, subst, true}
+use Rattle.std.proofs.Common.{sym, ◌∙◌, ap, length, subst}
 use Rattle.bn_model.specs.Images as flat
 use Rattle.bn_loader.specs.Segments.{Fits}
 use Rattle.bn_loader.proofs.SegmentLemmas.{fits_counted}

@@ -1,6 +1,5 @@
-use Rattle.std.proofs.Common.{◌≡◌, ◌<◌, ◌≤◌, ◌+◌, ◌∙◌, ◌==◌, [], List, ℕ, false, true, sym, ap, subst, arith, rules, length, drop, Ok}
+use Rattle.std.proofs.Common.{◌≡◌, ◌<◌, ◌≤◌, ◌+◌, ◌∙◌, ◌==◌, [], List, ℕ, false, true, sym, ap, subst, arith, rules, length}
 use Rattle.std.proofs.lemmas.Bool.Decides.{nat_tests}
-use Rattle.std.proofs.lemmas.Grind.{common_steps}
 use Rattle.bn_types.specs.Splitting.{pieces_after, split_by}
 use Rattle.bn_model.specs.declared.command.Command.{Command}
 use Rattle.bn_model.specs.Scripts.{commands_from, joined}

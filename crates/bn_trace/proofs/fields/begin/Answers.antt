@@ -1,6 +1,5 @@
-use Rattle.std.proofs.Common.{◌≡◌, ◌+◌, ◌-◌, ◌∷◌, length, drop, arith}
+use Rattle.std.proofs.Common.{arith}
 use Rattle.std.proofs.lemmas.Grind.{common_steps}
-use Rattle.bn_types.specs.Splitting.{pieces_after}
 use Rattle.bn_types.proofs.SplittingLemmas.{length_of_pieces}
 use Rattle.bn_trace.proofs.fields.begin.Goals as goal
 

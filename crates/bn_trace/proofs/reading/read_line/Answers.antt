@@ -1,4 +1,4 @@
-use Rattle.std.proofs.Common.{◌≡◌, ◌<◌, ◌==◌, ◌+◌, ◌-◌, ℕ, false, sym, ◌∙◌, ap, Ok, Err, length, arith, rules}
+use Rattle.std.proofs.Common.{◌≡◌, ◌<◌, ◌==◌, ◌+◌, ℕ, false, sym, ◌∙◌, ap, Ok, Err, length, arith, rules}
 use Rattle.std.proofs.lemmas.Bool.Decides.{nat_tests}
 use Rattle.bn_trace.proofs.ReadingLemmas.{read_placed}
 use Rattle.bn_trace.proofs.RoundTrip.{line_found}

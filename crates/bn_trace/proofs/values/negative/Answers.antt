@@ -1,4 +1,4 @@
-use Rattle.std.proofs.Common.{sym, ◌∙◌, ◌+◌, ◌^◌, ◌≡◌, ◌<◌, arith}
+use Rattle.std.proofs.Common.{sym, ◌+◌, ◌^◌, ◌<◌, arith}
 use Rattle.bn_types.proofs.NumeralLemmas.{numeral_none}
 use Rattle.bn_trace.proofs.ValueLemmas.{code_missing, code_refused, code_spelled, number_within}
 use Rattle.bn_trace.proofs.values.negative.Goals as goal

@@ -1,4 +1,4 @@
-use Rattle.std.proofs.Common.{sym, ◌∙◌, ◌+◌, ◌^◌, arith}
+use Rattle.std.proofs.Common.{sym, ◌+◌, ◌^◌, arith}
 use Rattle.bn_types.proofs.NumeralLemmas.{numeral_none}
 use Rattle.bn_trace.proofs.ValueLemmas.{number_beyond, number_found, number_missing, number_within}
 use Rattle.bn_trace.proofs.values.number_of.Goals as goal
