@@ -1,6 +1,7 @@
 -- A script's place: which of its commands comes next, and how many of that command's events are
 -- drawn.
-use Rattle.std.specs.Prelude.{ℕ, ◌%◌, ◌≤◌, ◌<◌, Bool, true, false, nat_lt, List, drop, flat_map, length, Option, Some, None, slice_get}
+use Rattle.std.specs.Prelude.{ℕ, ◌%◌, ◌≤◌, ◌<◌, Bool, true, false, nat_lt, List, drop, flat_map}
+use Rattle.std.specs.Prelude.{length, Option, Some, None, slice_get}
 use Rattle.bn_types.specs.declared.event.Event.{Event}
 use Rattle.bn_types.specs.declared.event.Event.TheVariants as event
 use Rattle.bn_model.specs.declared.command.Command.{Command}

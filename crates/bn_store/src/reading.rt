@@ -1,8 +1,11 @@
-ghost use Rattle.std.specs.Prelude.{◌≡◌, ℕ, ◌+◌, ◌*◌, ◌≤◌, None, Err, IfOk, OnErr, length, drop, vec_capacity};
+ghost use Rattle.std.specs.Prelude.{◌≡◌, ℕ, ◌+◌, ◌*◌, ◌≤◌, None, Err, IfOk, OnErr, length, drop};
+ghost use Rattle.std.specs.Prelude.{vec_capacity};
 ghost use Rattle.std.specs.Int.{from_le_bytes, w64};
 ghost use Rattle.std.specs.Ordering.{is_lt};
 ghost use Rattle.bn_model.specs.Records.{identity_order};
-ghost use Rattle.bn_model.specs.StoredImages.{after_magic, store_magic, magic_fault, head_fault, order_fault, count_in, record_of, records_in, words_in};
+ghost use Rattle.bn_model.specs.StoredImages.{after_magic, store_magic, magic_fault, head_fault};
+ghost use Rattle.bn_model.specs.StoredImages.{order_fault, count_in, record_of, records_in};
+ghost use Rattle.bn_model.specs.StoredImages.{words_in};
 
 use crate::ImageError;
 use bn_types::{Digest, Record};

@@ -1,7 +1,9 @@
-ghost use Rattle.std.specs.Prelude.{◌≡◌, ◌<◌, ◌≤◌, List, [], IfOk, IfErr, OnOk, OnErr, length, take, vec_capacity, slice_index_or};
+ghost use Rattle.std.specs.Prelude.{◌≡◌, ◌<◌, ◌≤◌, List, [], IfOk, IfErr, OnOk, OnErr, length};
+ghost use Rattle.std.specs.Prelude.{take, vec_capacity, slice_index_or};
 ghost use Rattle.std.specs.List.Sorted.{IsBinarySearchResult, IsSearchInRange};
 ghost use Rattle.bn_types.specs.declared.record.Record.{Record as Kept};
-ghost use Rattle.bn_model.specs.Records.{identity_order, AreRecords, get_word, set_word, set_refusal, new_record};
+ghost use Rattle.bn_model.specs.Records.{identity_order, AreRecords, get_word, set_word};
+ghost use Rattle.bn_model.specs.Records.{set_refusal, new_record};
 ghost use Rattle.bn_model.specs.StoredImages.{image_of, image_size, stored, Stored};
 ghost use Rattle.bn_store.specs.Answers.{refusal_of, IsImageFault};
 

@@ -1,5 +1,7 @@
 -- What a field's text spells, and what is spelled: each is the other.
-use Rattle.std.proofs.Common.{◌≡◌, ℕ, zero, suc, ℤ, pos, negsuc, ◌+◌, ◌/◌, ◌%◌, ◌^◌, ◌≤◌, ◌<◌, ◌==◌, ◌&&◌, Bool, true, false, List, [], ◌∷◌, ◌++◌, length, get_or, drop, Option, Some, None, nat_lt, nat_le, refl, ap, arith, subst}
+use Rattle.std.proofs.Common.{◌≡◌, ℕ, zero, suc, ℤ, pos, negsuc, ◌+◌, ◌/◌, ◌%◌, ◌^◌, ◌≤◌, ◌<◌, ◌==◌}
+use Rattle.std.proofs.Common.{◌&&◌, Bool, true, false, List, [], ◌∷◌, ◌++◌, length, get_or, drop}
+use Rattle.std.proofs.Common.{Option, Some, None, nat_lt, nat_le, refl, ap, arith, subst}
 use Rattle.std.proofs.lemmas.Bool.{false≢true}
 use Rattle.std.proofs.lemmas.Bool.Decides.{nat_tests}
 use Rattle.std.proofs.lemmas.Nat.{from_be_bytes-to_be_bytes_8}
@@ -18,7 +20,8 @@ use Rattle.bn_types.specs.declared.finish.Finish.TheVariants as finish
 use Rattle.bn_types.specs.declared.kind.Kind.TheVariants as kind
 use Rattle.bn_types.specs.declared.request.Request.TheVariants as request
 use Rattle.bn_model.specs.LineReading.{guess, is_byte, is_in, spelled_value, value_if, value_of}
-use Rattle.bn_model.specs.LineShapes.{Field, Decimal, Byte, Page, Word, Sha, Code, Access, Asked, Ended, ValueOf}
+use Rattle.bn_model.specs.LineShapes.{Field, Decimal, Byte, Page, Word, Sha, Code, Access, Asked}
+use Rattle.bn_model.specs.LineShapes.{Ended, ValueOf}
 use Rattle.bn_model.specs.Spelling.{field_text, page_digits, word_digits}
 use Rattle.bn_trace.proofs.ValueLemmas.{same_bytes}
 
@@ -57,8 +60,10 @@ word_bytes word = high_bytes 8 word
 
 bytes_from : (bytes : List ℕ) → list_all is_byte bytes ≡ true → IsBytes bytes
 bytes_from [] h i = grind arith
-bytes_from (byte ∷ bytes) h zero = below_from byte 256 (both (nat_lt byte 256) (list_all is_byte bytes) h).0
-bytes_from (byte ∷ bytes) h (suc i) = bytes_from bytes (both (nat_lt byte 256) (list_all is_byte bytes) h).1 i
+bytes_from (byte ∷ bytes) h zero =
+    below_from byte 256 (both (nat_lt byte 256) (list_all is_byte bytes) h).0
+bytes_from (byte ∷ bytes) h (suc i) =
+    bytes_from bytes (both (nat_lt byte 256) (list_all is_byte bytes) h).1 i
 
 word_again : (word : ℕ) → word < 2 ^ 64 → guess Word (word_digits word) ≡ Some word
 word_again word fits =
@@ -67,7 +72,8 @@ word_again word fits =
 
 -- a word whose first three digits are 0
 padded : (first second : ℕ) (bytes : List ℕ) → first ≡ 0 → second / 16 ≡ 0 →
-    codes "000" ++ drop 3 (encode_lower (first ∷ second ∷ bytes)) ≡ encode_lower (first ∷ second ∷ bytes)
+    codes "000" ++ drop 3 (encode_lower (first ∷ second ∷ bytes)) ≡
+    encode_lower (first ∷ second ∷ bytes)
 unfolding encode_with
 padded first second bytes e f = rw (e, f) refl
 
@@ -81,7 +87,8 @@ code_again (negsuc code) h =
     let below : code < 2 ^ 63 = below_from code (2 ^ 63) h in
     rw (numeral_again (2 ^ 63 + 1) (suc code) (omega arith) (omega (arith, below))) refl
 
-guess_again : (field : Field) (value : ValueOf field) → is_narrow field ≡ true → is_in field value ≡ true →
+guess_again : (field : Field) (value : ValueOf field) → is_narrow field ≡ true
+    → is_in field value ≡ true →
     guess field (field_text field value) ≡ Some value
 unfolding encode_with
 guess_again (Decimal limit) number small within =
@@ -114,25 +121,36 @@ guess_again Ended finish.Shutdown small within = refl
 guess_again Ended finish.Limit small within = refl
 
 -- what is spelled is read
-pub value_again : (field : Field) (value : ValueOf field) → is_narrow field ≡ true → is_in field value ≡ true →
+pub value_again : (field : Field) (value : ValueOf field) → is_narrow field ≡ true
+    → is_in field value ≡ true →
     value_of field (field_text field value) ≡ Some value
 unfolding value_of
 value_again field value small within =
-    rw (guess_again field value small within, within, same_bytes (field_text field value) (field_text field value) refl) refl
+    rw (
+      guess_again field value small within,
+      within,
+      same_bytes (field_text field value) (field_text field value) refl,
+    ) refl
 
 -- what is read is spelled
-pub value_found : (field : Field) (value : ValueOf field) (piece : List ℕ) → value_of field piece ≡ Some value →
+pub value_found : (field : Field) (value : ValueOf field) (piece : List ℕ)
+    → value_of field piece ≡ Some value →
     (is_in field value ≡ true) × (field_text field value ≡ piece)
 unfolding value_of
 value_found field value piece h = go (guess field piece) h
   where
-    tested : (found : ValueOf field) → (test : Bool) → (is_in field found && bytes_eq (field_text field found) piece) ≡ test →
-        value_if test found ≡ Some value → (is_in field value ≡ true) × (field_text field value ≡ piece)
+    tested : (found : ValueOf field) → (test : Bool)
+        → (is_in field found && bytes_eq (field_text field found) piece) ≡ test →
+        value_if test found ≡ Some value
+        → (is_in field value ≡ true) × (field_text field value ≡ piece)
     tested found true e same =
         let parts = both (is_in field found) (bytes_eq (field_text field found) piece) e in
-        let text : field_text field found ≡ piece = (let t = parts.1 in grind (arith, bytes_eq-Decides (field_text field found) piece)) in
-        let is : found ≡ value = grind arith in
-        (subst (λ (v : ValueOf field). is_in field v ≡ true) is parts.0, subst (λ (v : ValueOf field). field_text field v ≡ piece) is text)
+        let text : field_text field found ≡ piece =
+        (let t = parts.1 in grind (arith, bytes_eq-Decides (field_text field found) piece)) in
+        let is : found ≡ value = grind arith in (
+          subst (λ (v : ValueOf field). is_in field v ≡ true) is parts.0,
+          subst (λ (v : ValueOf field). field_text field v ≡ piece) is text,
+        )
     tested found false e same = absurd (none-some value same)
 
     go : (found : Option (ValueOf field)) → spelled_value field piece found ≡ Some value →
@@ -157,12 +175,16 @@ digits_plain (digit ∷ digits) h =
 
 decimal_plain : (number : ℕ) → number < 2 ^ 64 → is_plain (decimal number) ≡ true
 decimal_plain number fits =
-    digits_plain (decimal number) (numeral_parts (2 ^ 64) number (decimal number) (numeral_again (2 ^ 64) number (omega arith) fits)).digits
+    digits_plain (decimal number)
+    (numeral_parts (2 ^ 64) number (decimal number)
+    (numeral_again (2 ^ 64) number (omega arith) fits)).digits
 
-all_at : (text : List ℕ) (i : ℕ) → is_plain text ≡ true → i < length text → nat_lt 32 (get_or text i 0) ≡ true
+all_at : (text : List ℕ) (i : ℕ) → is_plain text ≡ true → i < length text
+    → nat_lt 32 (get_or text i 0) ≡ true
 all_at [] i h within = grind arith
 all_at (byte ∷ text) zero h within = (both (nat_lt 32 byte) (is_plain text) h).0
-all_at (byte ∷ text) (suc i) h within = all_at text i (both (nat_lt 32 byte) (is_plain text) h).1 (omega arith)
+all_at (byte ∷ text) (suc i) h within =
+    all_at text i (both (nat_lt 32 byte) (is_plain text) h).1 (omega arith)
 
 digit_plain : (d : ℕ) → d < 16 → nat_lt 32 (get_or lower_digits d 0) ≡ true
 digit_plain d small = all_at lower_digits d refl small
@@ -172,7 +194,8 @@ unfolding encode_with
 hex_plain [] h = refl
 hex_plain (byte ∷ bytes) h =
     let below : byte < 256 = h 0 in
-    rw (digit_plain (byte / 16) (omega (arith, below)), digit_plain (byte % 16) (omega arith)) (hex_plain bytes (λ i. h (suc i)))
+    rw (digit_plain (byte / 16) (omega (arith, below)), digit_plain (byte % 16) (omega arith))
+    (hex_plain bytes (λ i. h (suc i)))
 
 drop_plain : (n : ℕ) (text : List ℕ) → is_plain text ≡ true → is_plain (drop n text) ≡ true
 drop_plain zero text h = h
@@ -182,9 +205,11 @@ drop_plain (suc n) (byte ∷ text) h = drop_plain n text (both (nat_lt 32 byte) 
 code_plain : (code : ℤ) → is_in Code code ≡ true → is_plain (field_text Code code) ≡ true
 code_plain (pos code) h = absurd (false≢true h)
 code_plain (negsuc code) h =
-    let below : code < 2 ^ 63 = below_from code (2 ^ 63) h in decimal_plain (suc code) (omega (arith, below))
+    let below : code < 2 ^ 63 = below_from code (2 ^ 63) h in
+    decimal_plain (suc code) (omega (arith, below))
 
-pub field_plain : (field : Field) (value : ValueOf field) → is_narrow field ≡ true → is_in field value ≡ true →
+pub field_plain : (field : Field) (value : ValueOf field) → is_narrow field ≡ true
+    → is_in field value ≡ true →
     is_plain (field_text field value) ≡ true
 field_plain (Decimal limit) number small within =
     let narrow : limit ≤ 2 ^ 64 = grind (arith, nat_tests) in
@@ -195,9 +220,12 @@ field_plain Byte byte small within = hex_plain (byte ∷ []) one
     one : IsBytes (byte ∷ [])
     one zero = below_from byte 256 within
     one (suc i) = grind arith
-field_plain Page page small within = drop_plain 3 (word_digits page) (hex_plain (to_be_bytes w64 page) (word_bytes page))
+field_plain Page page small within =
+    drop_plain 3 (word_digits page) (hex_plain (to_be_bytes w64 page) (word_bytes page))
 field_plain Word word small within = hex_plain (to_be_bytes w64 word) (word_bytes word)
-field_plain Sha digest small within = hex_plain digest (bytes_from digest (both (length digest == 32) (list_all is_byte digest) within).1)
+field_plain Sha digest small within =
+    hex_plain digest (bytes_from digest
+    (both (length digest == 32) (list_all is_byte digest) within).1)
 field_plain Code code small within = code_plain code within
 field_plain Access kind.Fetch small within = refl
 field_plain Access kind.Load small within = refl

@@ -10,5 +10,6 @@ pub weaker : (old new : VaultAccount) (P Q : Areas → Type 0) → LeavesOnly ol
 weaker old new P Q only more = record {
   later = only.later;
   each = λ c left. more c (only.each c left);
-  before = λ t c le left. ⊎_elim (λ past. inl past) (λ has. inr (more c has)) (only.before t c le left);
+  before = λ t c le left.
+      ⊎_elim (λ past. inl past) (λ has. inr (more c has)) (only.before t c le left);
 }

@@ -1,5 +1,6 @@
 -- What an opened store says of the areas and the register that it was read from.
-use Rattle.std.specs.Prelude.{◌≡◌, ◌⊎◌, ℕ, Bool, true, false, List, [], Option, Some, None, bytes_eq}
+use Rattle.std.specs.Prelude.{◌≡◌, ◌⊎◌, ℕ, Bool, true, false, List, [], Option, Some, None}
+use Rattle.std.specs.Prelude.{bytes_eq}
 use Rattle.sha2.specs.Sha256.{sha256}
 use Rattle.bn_edge.specs.Areas.{Areas, area_at}
 use Rattle.bn_edge.specs.declared.area.Area.{Area}

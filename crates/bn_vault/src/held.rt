@@ -1,4 +1,5 @@
-ghost use Rattle.std.specs.Prelude.{◌≡◌, ◌≢◌, ℕ, ◌-◌, ◌^◌, ◌<◌, ◌≤◌, false, List, Some, Err, OnOk, is_err, length};
+ghost use Rattle.std.specs.Prelude.{◌≡◌, ◌≢◌, ℕ, ◌-◌, ◌^◌, ◌<◌, ◌≤◌, false, List, Some, Err, OnOk};
+ghost use Rattle.std.specs.Prelude.{is_err, length};
 ghost use Rattle.sha2.specs.Sha256.{sha256};
 ghost use Rattle.bn_edge.specs.Areas.{Areas, area_room, other_area};
 ghost use Rattle.bn_edge.specs.Crashes.{IsStable, LeavesOnly};

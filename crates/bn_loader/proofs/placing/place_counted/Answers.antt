@@ -6,6 +6,7 @@ use Rattle.bn_loader.proofs.placing.place_counted.Goals as goal
 
 pub place_segment-requires-clause-fits : goal.place_segment-requires-clause-fits
 place_segment-requires-clause-fits c =
-    let counted = ap flat.counts (sym c.header_at-header.ensures) ∙ sym c.counts.ensures ∙ c.if-counts.true in
+    let counted = ap flat.counts (sym c.header_at-header.ensures) ∙ sym c.counts.ensures
+    ∙ c.if-counts.true in
     subst (Fits (length c.args.file.now) (length c.args.ram.now)) (sym c.header_at-header.ensures)
     (fits_counted (length c.args.ram.now) c.args.file.now c.args.place c.requires.checked counted)

@@ -4,4 +4,6 @@ use Rattle.bn_store.proofs.reading.read_words.Given as goal
 
 -- so many words are read
 abbrev pub invariant-loop-number : goal.invariant-loop-number
-invariant-loop-number l = (take l.number l.words ≡ words_in l.number (drop l.at l.text)) × (length l.words ≡ length l.fn.words)
+invariant-loop-number l =
+    (take l.number l.words ≡ words_in l.number (drop l.at l.text)) ×
+    (length l.words ≡ length l.fn.words)

@@ -5,4 +5,6 @@ use Rattle.bn_trace.proofs.reading.read_pieces.Goals as goal
 
 pub returns-in-None : goal.returns-in-None
 returns-in-None c =
-    sym (no_head c.args.line.now c.split_first.result.0.now (pieces_after 32 c.split_first.result.1.now) c.split_first.ensures.pieces (sym c.in-None.ensures))
+    sym (no_head c.args.line.now c.split_first.result.0.now
+    (pieces_after 32 c.split_first.result.1.now) c.split_first.ensures.pieces
+    (sym c.in-None.ensures))

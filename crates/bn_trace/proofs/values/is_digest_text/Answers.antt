@@ -7,5 +7,6 @@ use Rattle.bn_trace.proofs.values.is_digest_text.Goals as goal
 
 pub returns : goal.returns
 returns c =
-    let within : is_in Sha c.args.bytes.now ≡ true = digest_in c.args.bytes.now c.requires (λ i. omega (arith, c.type_inv.bytes i)) in
+    let within : is_in Sha c.args.bytes.now ≡ true =
+    digest_in c.args.bytes.now c.requires (λ i. omega (arith, c.type_inv.bytes i)) in
     rw within (grind (arith, common_steps))
