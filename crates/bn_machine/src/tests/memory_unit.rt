@@ -1,8 +1,8 @@
 //! The memory unit over a small RAM, called as a machine calls it.
 ghost use Rattle.std.specs.Prelude.{◌≡◌, ◌≢◌, ◌+◌, ◌<◌, ℕ, [], None, length, replicate};
+ghost use Rattle.std.specs.List.{All};
 ghost use Rattle.bn_types.specs.Numbers.{zero_page};
 ghost use Rattle.bn_model.specs.Nesting.{place};
-ghost use Rattle.bn_shadow.specs.Counting.{LieInRam};
 ghost use Rattle.bn_unit.specs.Memory.{AllPlaced};
 
 use arrayvec::ArrayVec;
@@ -224,7 +224,7 @@ fn try_view<L: Ledger>(rt: &impl Abort, alloc: Global, blank: Blank)
 
 /// Module 1, with page 5 as private data where it lies in Bare.
 fn module_row() -> Row
-    ensures { LieInRam 16 result.judged.decls.items }
+    ensures { All (λ decl. decl.gpn.0 < 16) result.judged.decls.items }
 {
     let mut decls = ArrayVec::new();
     decls.push(Decl {
