@@ -57,6 +57,10 @@ impl Shadow {
     pub fn admits(&self, module: ModId, vpn: Vpn, page: Gpn, kind: Kind) -> bool
         ensures { result ≡ admits self.now.live «module».0 vpn.0 page.0 kind }
     {
+        // The untrusted world declares nothing: most accesses ask no more than this.
+        if module.0 == 0 {
+            return !self.owned(page);
+        }
         match declaration_in(&self.live, module, vpn) {
             Some(decl) => self.admits_by(&decl, page, kind),
             None => !self.owned(page) && is_free_to_leave(module, kind),
