@@ -1,3 +1,5 @@
+ghost use Rattle.std.specs.Prelude.{◌<◌};
+
 use crate::{SegFault, read, write};
 use arrayvec::ArrayVec;
 use bn_types::{Digest, Mode, Rights, SegPage, Segment, Sort, Vpn};
