@@ -1,19 +1,23 @@
 -- What blanking leaves of memory: what the untrusted world sees, and what other modules reach.
 use Rattle.std.proofs.Common.{◌≡◌, ℕ, ◌%◌, Bool, true, false, List, [], length, set, Result, Ok}
-use Rattle.std.proofs.Common.{refl, sym, ap, ◌∙◌}
+use Rattle.std.proofs.Common.{◌&&◌, Option, flat_map, refl, sym, ap, ◌∙◌}
+use Rattle.sha2.specs.Sha256.{sha256}
 use Rattle.bn_types.specs.Numbers.{number_at, page_at, with_number}
 use Rattle.bn_types.specs.declared.asker.Asker.{Asker}
+use Rattle.bn_types.specs.declared.digest.Digest.{Digest}
 use Rattle.bn_types.specs.declared.fault.Fault.{Fault}
 use Rattle.bn_types.specs.declared.kind.Kind.{Kind}
 use Rattle.bn_types.specs.declared.width.Width.{Width}
 use Rattle.bn_model.specs.declared.owner.Owner.{Owner}
 use Rattle.bn_model.specs.declared.place.Place.{Place}
 use Rattle.bn_model.specs.Accessing.{access, answer_of_load, pages_with}
-use Rattle.bn_model.specs.Blanking.{blank_page, blank_pages, blank_row, blanked}
+use Rattle.bn_model.specs.Blanking.{blank, blank_if, blank_page, blank_pages, blank_row, blanked}
+use Rattle.bn_model.specs.Blanking.{rests}
 use Rattle.bn_model.specs.Each.{each}
 use Rattle.bn_model.specs.Evicting.{zeros_if}
 use Rattle.bn_model.specs.Memory.{readable_if, readable_page, visible}
-use Rattle.bn_model.specs.Owners.{is_owned, is_private_page}
+use Rattle.bn_model.specs.Owners.{is_live, is_owned, is_private_page}
+use Rattle.bn_model.specs.Reporting.{bytes_if_free, public_digest}
 use Rattle.bn_model.specs.Rows.{owners}
 use Rattle.bn_model.specs.State.{State, memory}
 use Rattle.bn_model.specs.Walking.{vpn_of}
@@ -58,6 +62,21 @@ visible-blanked m s =
     (record { pages = blank_pages (owners s.rows) m s.pages; owners = os }))
     (owners-blanked m s)
     ∙ seen-blanked (owners s.rows) m s.pages
+
+seen-digest : List (Option (List ℕ)) → Digest
+seen-digest pages = record { 0 = sha256 (flat_map bytes_if_free pages) }
+
+digest-blanked : (m : ℕ) (s : State) → public_digest (blanked m s) ≡ public_digest s
+unfolding public_digest seen-digest
+digest-blanked m s = ap seen-digest (visible-blanked m s)
+
+pub digest-blank : (m : ℕ) (s : State) → public_digest (blank m s) ≡ public_digest s
+unfolding blank
+digest-blank m s = by_guard (is_live (owners s.rows) m && rests m s)
+  where
+    by_guard : (b : Bool) → public_digest (blank_if b m s) ≡ public_digest s
+    by_guard true = digest-blanked m s
+    by_guard false = refl
 
 pub alike-blanked : (m : ℕ) (s : State) → AreAlike (memory (blanked m s)) (memory s)
 alike-blanked m s = record {

@@ -4,6 +4,7 @@ use Rattle.bn_types.specs.Numbers.{page_at}
 use Rattle.bn_types.specs.declared.event.Event.{Event}
 use Rattle.bn_model.specs.Blanking.{blank, rests}
 use Rattle.bn_model.specs.Owners.{is_live, is_private_page}
+use Rattle.bn_model.specs.Reporting.{public_digest}
 use Rattle.bn_model.specs.Rows.{owners, row_of, saved_of}
 use Rattle.bn_model.specs.Running.{run}
 use Rattle.bn_model.specs.Soundness.{IsSound}
@@ -14,6 +15,10 @@ use Rattle.bn_model.specs.Stepping.{Fits, lines, step}
 pub record RestsIn (m : ℕ) (s : State) : Type 0 where
   pub live : is_live (owners s.rows) m ≡ true
   pub rest : rests m s ≡ true
+
+-- the digest of the public pages is the same without the secrets of a module
+abbrev pub DigestsNoSecrets : Type 0
+DigestsNoSecrets = (s : State) (m : ℕ) → public_digest (blank m s) ≡ public_digest s
 
 -- ---- one event
 

@@ -1,7 +1,7 @@
 //! The laws of the definitions. Each is the contract of a function that does nothing.
 
 pub use blanking::{
-    keeps_resting, resting_hides_secrets, tells_no_secrets, uses_no_secrets,
+    digests_no_secrets, keeps_resting, resting_hides_secrets, tells_no_secrets, uses_no_secrets,
     zeroing_changes_nothing,
 };
 pub use instruction_table::{follows_table, keeps_ranges, one_insn, one_word};

@@ -1,6 +1,12 @@
 //! The laws of a resting module's secrets.
-ghost use Rattle.bn_model.specs.BlankingLaws.{KeepsResting, RestingHidesSecrets, TellsNoSecrets};
+ghost use Rattle.bn_model.specs.BlankingLaws.{DigestsNoSecrets, KeepsResting};
+ghost use Rattle.bn_model.specs.BlankingLaws.{RestingHidesSecrets, TellsNoSecrets};
 ghost use Rattle.bn_model.specs.BlankingLaws.{UsesNoSecrets, ZeroingChangesNothing};
+
+/// The digest of the public pages is the same without the secrets of a module.
+pub fn digests_no_secrets()
+    ensures { DigestsNoSecrets }
+{}
 
 /// The lines of an event are the same without the secrets of a module that rests before it.
 pub fn tells_no_secrets()
