@@ -1,4 +1,5 @@
 pub mod Built
+pub mod Costs
 pub mod Headline
 pub mod Loads
 pub mod Making
