@@ -5,6 +5,7 @@ pub mod Loads
 pub mod Making
 pub mod Orders
 pub mod Outside
+pub mod Runs
 pub mod Standing
 pub mod Story
 pub mod Telling
