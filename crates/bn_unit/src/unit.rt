@@ -209,6 +209,7 @@ impl Unit {
     }
 
     /// The place that an access of the kind and width reaches.
+    #[inline(always)]
     #[tactic(auto, unfolding(bn_model::specs::Accessing::access, bn_model::specs::Accessing::guest_words))]
     fn reach<L: Ledger>(
         &self,
@@ -248,6 +249,7 @@ impl Unit {
     }
 
     /// The place of an address that leads to this physical page.
+    #[inline(always)]
     fn find_place(&self, who: &Asker, kind: Kind, va: u64, ppn: u64) -> Result<Place, Fault>
         ensures place { (pages : List (List ℕ)) → length pages ≡ self.now.nest.ram → result
             ≡ accessing.place_on (record { pages = pages; owners = self.now.live }) who.now kind va
