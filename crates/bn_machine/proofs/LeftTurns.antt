@@ -18,11 +18,6 @@ use Rattle.bn_model.specs.Switching.{is_mode}
 use Rattle.bn_machine.specs.Built.{is_built_turn}
 use Rattle.bn_machine.specs.Making.{IsResumption}
 
-pub launch_unbuilt : (rd : Reg) (judgement : Result Judged LaunchRefused)
-    → is_built_turn (decision_of_launch rd judgement) ≡ false
-launch_unbuilt rd (Err refusal) = refl
-launch_unbuilt rd (Ok judged) = refl
-
 pub call_unbuilt : (mode : Mode) (rd : Reg) (id entry : ℕ) (row : Option Row)
     → is_built_turn (decision_of_call mode rd id entry row) ≡ false
 call_unbuilt mode rd id entry None = refl

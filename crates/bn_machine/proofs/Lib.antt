@@ -1,5 +1,6 @@
 pub mod AlignedJumps
 pub mod Filling
+pub mod Launches
 pub mod Numerals
 pub mod PublicPages
 pub mod Runs

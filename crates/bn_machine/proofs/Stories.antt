@@ -4,6 +4,7 @@ use Rattle.std.proofs.Common.{codes, refl, sym, ap, subst, ◌∙◌, arith}
 use Rattle.std.proofs.lemmas.List.{append_assoc}
 use Rattle.bn_types.specs.declared.ending.Ending.{Ending}
 use Rattle.bn_types.specs.declared.ending.Ending.TheVariants as ending
+use Rattle.bn_types.specs.declared.event.Event.{Event}
 use Rattle.bn_types.specs.declared.status.Status.{Status}
 use Rattle.bn_types.specs.declared.status.Status.TheVariants as answer
 use Rattle.bn_edge.specs.Accounts.{SinkAccount}
@@ -18,7 +19,10 @@ use Rattle.bn_model.specs.Spelling.{text_of}
 use Rattle.bn_model.specs.State.{State}
 use Rattle.bn_model.specs.Words.{RunOrder, order_of}
 use Rattle.bn_machine.specs.Built.{is_built_event}
-use Rattle.bn_machine.specs.Headline.{CountsMiss, IsDue, IsQuiet, Outside, Promise, WritesReport}
+use Rattle.bn_model.proofs.ChangeLemmas.{changes-are-touched}
+use Rattle.bn_model.proofs.TouchLemmas.{touches-are-admitted}
+use Rattle.bn_machine.specs.Headline.{CountsMiss, IsAdmitted, IsDue, IsQuiet, Outside, Promise}
+use Rattle.bn_machine.specs.Headline.{WritesReport}
 use Rattle.bn_machine.specs.Story.{Answers, CountsSinkFault, IsStory, WasDue}
 use Rattle.bn_machine.specs.Telling.{FinishesRun}
 use Rattle.bn_machine.proofs.Wrote.{appended-append}
@@ -159,6 +163,14 @@ miss_told : (status : Status) (old new : ℕ) → CountsMiss status old new
 miss_told answer.NoFile old new c = told_where _ old new refl c
 miss_told status old new c = told_nowhere _ old new (λ e. cc) c
 
+-- ---- what a run touches
+
+admitted : (s : State) (event : Event) → IsAdmitted s event
+admitted s event = record {
+  touches = touches-are-admitted s event;
+  changes = changes-are-touched s event;
+}
+
 -- ---- the promise
 
 -- a report was due
@@ -245,6 +257,7 @@ promise words answer.Memory old new s c = record {
   desk_line = λ e. cc;
   untouched = λ e. s.untouched;
   uncounted = λ e. s.missed;
+  touched = λ files s event made. admitted s event;
 }
 promise words answer.SinkFault old new s c =
     let broken = λ (work : IsQuiet old.sink.faults new.sink.faults).
@@ -258,6 +271,7 @@ promise words answer.SinkFault old new s c =
       desk_line = λ e. cc;
       untouched = λ e. cc;
       uncounted = λ e. cc;
+      touched = λ files s event made. admitted s event;
     }
 promise words status old new s c = record {
   exact = λ work memory. reported words old new status s (λ e. cc) (λ e. cc) work.1;
@@ -269,4 +283,5 @@ promise words status old new s c = record {
   desk_line = desk_line words old new status s (λ e. cc) (λ e. cc);
   untouched = λ e. cc;
   uncounted = λ e. cc;
+  touched = λ files s event made. admitted s event;
 }

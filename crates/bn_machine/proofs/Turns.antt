@@ -1,6 +1,10 @@
 -- How the parts of a turn join.
-use Rattle.std.proofs.Common.{◌≡◌, ℕ, true, false, List, [], Option, Some, None, Result, Ok, Err}
-use Rattle.std.proofs.Common.{refl, sym, ap, ◌∙◌, subst}
+use Rattle.std.proofs.Common.{◌≡◌, ℕ, ◌+◌, ◌<◌, ◌≤◌, true, false, length, List, [], Option, Some}
+use Rattle.std.proofs.Common.{None, Result, Ok, Err, refl, sym, ap, ◌∙◌, subst, arith}
+use Rattle.bn_types.specs.declared.act.Act.{Act}
+use Rattle.bn_types.specs.declared.act.Act.TheVariants as act
+use Rattle.bn_types.specs.declared.event.Event.TheVariants.{Turn}
+use Rattle.bn_types.specs.declared.mod_id.ModId.{ModId}
 use Rattle.bn_types.specs.declared.fault.Fault.{Fault}
 use Rattle.bn_types.specs.declared.gpn.Gpn.{Gpn}
 use Rattle.bn_types.specs.declared.kind.Kind.TheVariants as kind
@@ -8,16 +12,21 @@ use Rattle.bn_types.specs.declared.row.Row.{Row}
 use Rattle.bn_types.specs.declared.width.Width.TheVariants.{B4}
 use Rattle.bn_model.specs.Accessing.{access, answer_of_load}
 use Rattle.bn_model.specs.Deciding.{asked_of, asked_of_denial, asked_of_fault, asked_of_fetch}
-use Rattle.bn_model.specs.Deciding.{asked_of_insn, asked_of_interrupt, decision_of}
+use Rattle.bn_model.specs.Deciding.{asked_of_insn, asked_of_interrupt, asked_of_stopped, decision_of}
 use Rattle.bn_model.specs.Deciding.{decision_of_fault, decision_of_hart}
-use Rattle.bn_model.specs.Decision.{Asked, Decision, Unfetched}
+use Rattle.bn_model.specs.Decision.{Asked, Nothing, Interrupted, Unfetched, Resuming, Unknown}
+use Rattle.bn_model.specs.Decision.{Acting, Decision}
 use Rattle.bn_model.specs.Decoding.{insn_of}
+use Rattle.bn_model.specs.Soundness.{IsSound}
 use Rattle.bn_model.specs.Spelling.{text_of}
 use Rattle.bn_model.specs.State.{Hart, State, asker, hart_at, memory}
-use Rattle.bn_model.specs.Stepping.{after_turn, lines_of_turn}
+use Rattle.bn_model.specs.Stepping.{after_turn, lines_of_turn, step}
 use Rattle.bn_model.specs.Switching.{stopped_at}
+use Rattle.bn_model.specs.Walking.{vpn_of}
+use Rattle.bn_model.proofs.SoundKept.{sound-kept}
 use Rattle.bn_machine.specs.declared.unbuilt.Unbuilt.{Unbuilt}
 use Rattle.bn_machine.specs.Built.{is_built_turn}
+use Rattle.bn_machine.specs.Costs.{CountsAct, CountsAsked, CountsTurn}
 use Rattle.bn_machine.specs.Making.{IsMade, IsTurn, Makes, MakesAsked, MakesTurn}
 use Rattle.bn_machine.specs.Outside.{hart_outside}
 
@@ -69,3 +78,78 @@ made-turn (Err unbuilt) s new text h e left = record {
   same = left.same;
   empty = left.empty;
 }
+
+-- a turn keeps soundness
+pub sound-turn : (result : Result Unit Unbuilt) (s new : State) (text : List ℕ) (h : ℕ)
+    → h < length s.harts → IsSound s → MakesTurn result s new text h → IsSound new
+unfolding step
+sound-turn (Ok done) s new text h within sound made =
+    subst IsSound (sym made.stepped) (sound-kept s (Turn h) within sound)
+sound-turn (Err unbuilt) s new text h within sound left = subst IsSound (sym left.same) sound
+
+-- ---- table words
+
+-- what was asked counts at most 15 more with the fetch
+counted-more : (asked : Asked) (old mid new : ℕ) → mid ≤ old + 15 → CountsAsked asked 15 mid new
+    → CountsAsked asked 30 old new
+counted-more Nothing old mid new fetch count = omega arith
+counted-more (Interrupted cause) old mid new fetch count = omega arith
+counted-more (Unfetched fault) old mid new fetch count = omega arith
+counted-more (Resuming id) old mid new fetch count = omega arith
+counted-more Unknown old mid new fetch count = omega arith
+counted-more (Acting asked) old mid new fetch count = by_act asked count
+  where
+    by_act : (asked : Act) → CountsAct asked 15 mid new → CountsAct asked 30 old new
+    by_act (act.Bastion secure) count = tt
+    by_act (act.Set rd value) count = omega arith
+    by_act (act.Jump target rd link) count = omega arith
+    by_act act.Next count = omega arith
+    by_act (act.LoadAt va width signed rd) count = omega arith
+    by_act (act.StoreAt va width value) count = omega arith
+    by_act (act.Csr op number operand reads writes rd) count = omega arith
+    by_act act.Ecall count = omega arith
+    by_act act.Ebreak count = omega arith
+    by_act act.Sret count = omega arith
+    by_act act.Wfi count = omega arith
+    by_act act.SfenceVma count = omega arith
+    by_act (act.Trap cause value) count = omega arith
+
+-- a word was fetched
+pub counted-fetched : (s t : State) (h word old mid new : ℕ) → t ≡ s → fetched s h ≡ Ok word
+    → mid ≤ old + 15
+    → CountsAsked (asked_of_insn (hart_outside t h) (insn_of word)) 15 mid new
+    → CountsAsked (asked_of_interrupt s h (hart_outside s h) None) 30 old new
+counted-fetched s t h word old mid new same e fetch count =
+    subst (λ (asked : Asked). CountsAsked asked 30 old new)
+    (sym (ap (asked_of_fetch s.rows (hart_outside s h)) e))
+    (counted-more (asked_of_insn (hart_outside s h) (insn_of word)) old mid new fetch
+    (subst (λ (t : State).
+    CountsAsked (asked_of_insn (hart_outside t h) (insn_of word)) 15 mid new) same count))
+
+-- the fetch failed
+pub counted-unfetched : (s : State) (h : ℕ) (fault : Fault) (old mid : ℕ) → fetched s h ≡ Err fault
+    → mid ≤ old + 15
+    → CountsAsked (asked_of_interrupt s h (hart_outside s h) None) 30 old mid
+counted-unfetched s h fault old mid e fetch =
+    subst (λ (asked : Asked). CountsAsked asked 30 old mid)
+    (sym (ap (asked_of_fetch s.rows (hart_outside s h)) e))
+    (by_page fault.denied)
+  where
+    by_stopped : (id : Option ModId) → CountsAsked (asked_of_stopped fault id) 30 old mid
+    by_stopped None = omega arith
+    by_stopped (Some id) = omega arith
+
+    by_page : (page : Option Gpn)
+        → CountsAsked (asked_of_denial s.rows (hart_outside s h) fault page) 30 old mid
+    by_page None = omega arith
+    by_page (Some page) =
+        by_stopped (stopped_at s.rows page.0 (vpn_of (hart_outside s h).pc)
+        (hart_outside s h).pc (hart_outside s h).mode)
+
+-- of a hart that runs the untrusted world
+pub counted-turn : (s : State) (h old new : ℕ) → hart_outside s h ≡ hart_at s h
+    → CountsAsked (asked_of s h (hart_outside s h)) 30 old new
+    → CountsTurn s h (hart_at s h) 30 old new
+unfolding CountsTurn
+counted-turn s h old new e count =
+    subst (λ (hart : Hart). CountsAsked (asked_of s h hart) 30 old new) e count

@@ -2,9 +2,11 @@
 use Rattle.std.specs.Prelude.{ℕ, ◌==◌, Bool, true, false, List}
 use Rattle.bn_types.specs.declared.event.Event.{Event}
 use Rattle.bn_types.specs.declared.event.Event.TheVariants.{Turn}
+use Rattle.bn_types.specs.declared.request.Request.{Request}
+use Rattle.bn_types.specs.declared.request.Request.TheVariants as request
 use Rattle.bn_model.specs.Deciding.{decision_of}
 use Rattle.bn_model.specs.Decision.{Decision, Rest, Trap, Deny, Next, Set, Jump, Store, Csr}
-use Rattle.bn_model.specs.Decision.{ReturnFromTrap, Put, Answer, ShutDown}
+use Rattle.bn_model.specs.Decision.{ReturnFromTrap, Put, Answer, ShutDown, Refuse, Launch}
 use Rattle.bn_model.specs.Hypervisor.{not_supported}
 use Rattle.bn_model.specs.Reporting as flat
 use Rattle.bn_model.specs.Reporting.{Files, Report}
@@ -13,6 +15,11 @@ use Rattle.bn_model.specs.State.{State}
 -- the answer of a call that there isn't
 abbrev pub is_built_answer : (error : ℕ) → Bool
 is_built_answer error = error == not_supported
+
+-- a request that is refused
+abbrev pub is_built_request : Request → Bool
+is_built_request request.Launch = true
+is_built_request other = false
 
 -- what the code can do already; a turn that isn't built changes nothing and has no line
 abbrev pub is_built_turn : Decision → Bool
@@ -28,6 +35,8 @@ is_built_turn ReturnFromTrap = true
 is_built_turn (Put byte) = true
 is_built_turn (Answer error) = is_built_answer error
 is_built_turn ShutDown = true
+is_built_turn (Refuse rd request code) = is_built_request request
+is_built_turn (Launch rd judged) = true
 is_built_turn decision = false
 
 -- of the events only turns are built

@@ -2,6 +2,8 @@
 -- the outside before it and after it.
 use Rattle.std.specs.Prelude.{◌≡◌, ◌≢◌, ◌≤◌, ℕ, ◌⊎◌, List, map, codes, Option, Some, None, Vec}
 use Rattle.std.specs.declared.alloc.Global.{Global}
+use Rattle.bn_types.specs.Numbers.{page_at}
+use Rattle.bn_types.specs.declared.event.Event.{Event}
 use Rattle.bn_types.specs.declared.status.Status.{Status}
 use Rattle.bn_types.specs.declared.status.Status.TheVariants.{DeskFault, Memory, NoFile, SinkFault}
 use Rattle.bn_edge.specs.Accounts.{DeskAccount, SinkAccount}
@@ -9,7 +11,13 @@ use Rattle.bn_edge.specs.Counts.{CanCount, IsToldBy, Rises, Stays}
 use Rattle.bn_edge.specs.Files.{file_named}
 use Rattle.bn_edge.specs.Written.{Writes, WritesFront}
 use Rattle.bn_model.specs.Reporting.{Files, Report, desk_failed}
+use Rattle.bn_model.specs.Soundness.{Has}
+use Rattle.bn_model.specs.State.{State}
+use Rattle.bn_model.specs.Stepping.{step}
+use Rattle.bn_model.specs.Touching.{Touch, touch}
+use Rattle.bn_model.specs.TouchingLaws.{IsDeclared, IsGivenUp, IsStored, IsUnowned}
 use Rattle.bn_machine.specs.Built.{report_of}
+use Rattle.bn_machine.specs.Runs.{RunMakes}
 
 -- the words as lists of bytes
 abbrev pub bytes_of_words : List (Vec ℕ Global) → List (List ℕ)
@@ -77,6 +85,17 @@ pub record WritesFrontOfDue (words : List (List ℕ)) (old new : Outside) : Type
   pub due : IsDue words old.desk new.desk report
   pub front : WritesFront old.sink new.sink report.text
 
+-- the event touches pages that have no owners, or that the module declares which touches them, at
+-- that virtual page and with that right; and it changes no pages but those that it stores to and
+-- those of modules that it removes
+pub record IsAdmitted (s : State) (event : Event) : Type 0 where
+  pub touches :
+      (touched : Touch) → Has touched (touch s event) →
+      IsUnowned s touched.page.0 ⊎ IsDeclared s touched
+  pub changes :
+      (page : ℕ) → (page_at (step s event).pages page ≡ page_at s.pages page) ⊎
+      (IsStored (touch s event) page ⊎ IsGivenUp s.rows (step s event).rows page)
+
 pub record Promise (words : List (List ℕ)) (status : Status) (old new : Outside) : Type 0 where
   -- where no count of faults rose, the flat machine's report is written, or memory ran out
   pub exact : AllWork old new → status ≢ Memory → WritesReport words status old new
@@ -90,3 +109,6 @@ pub record Promise (words : List (List ℕ)) (status : Status) (old new : Outsid
   pub desk_line : status ≡ DeskFault → Writes old.sink new.sink (codes "desk image\n")
   pub untouched : status ≡ Memory → new.sink.written ≡ old.sink.written
   pub uncounted : status ≡ Memory → Stays old.desk.misses new.desk.misses
+  -- who touches the guest's pages in a run, and which of them change
+  pub touched : (files : Files) (s : State) (event : Event) → RunMakes words files s event →
+      IsAdmitted s event

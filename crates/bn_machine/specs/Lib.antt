@@ -1,9 +1,11 @@
 pub mod Built
+pub mod Costs
 pub mod Headline
 pub mod Loads
 pub mod Making
 pub mod Orders
 pub mod Outside
+pub mod Runs
 pub mod Standing
 pub mod Story
 pub mod Telling

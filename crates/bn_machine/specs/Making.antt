@@ -1,9 +1,10 @@
 -- What a turn's methods come to: the decision is made, or it isn't built and nothing changes.
-use Rattle.std.specs.Prelude.{◌≡◌, ℕ, Bool, true, false, List, [], Result, Ok, Err}
+use Rattle.std.specs.Prelude.{◌≡◌, ℕ, suc, ◌<◌, ℤ, Bool, true, false, List, [], Result, Ok, Err}
 use Rattle.bn_types.specs.declared.act.Act.{Act}
 use Rattle.bn_model.specs.Deciding.{decision_of, decision_of_act, decision_of_asked}
 use Rattle.bn_types.specs.declared.fault.Fault.{Fault}
 use Rattle.bn_model.specs.Decision.{Asked, Decision, Resuming, Unfetched}
+use Rattle.bn_model.specs.Refusals.{minus}
 use Rattle.bn_model.specs.Spelling.{text_of}
 use Rattle.bn_model.specs.State.{State, hart_at}
 use Rattle.bn_model.specs.Stepping.{after_turn, lines_of_turn}
@@ -63,3 +64,9 @@ MakesAct result old new text h act =
 abbrev pub MakesTurn : Result Unit Unbuilt → (old new : State) → List ℕ → ℕ → Type 0
 MakesTurn (Ok made) old new text h = IsTurn old new text h
 MakesTurn (Err unbuilt) old new text h = IsLeft old new text (decision_of old h)
+
+-- minus a small number above 0
+pub record IsRefusalCode (code : ℤ) : Type 0 where
+  pub number : ℕ
+  pub small : number < 32
+  pub is : code ≡ minus (suc number)

@@ -1,5 +1,8 @@
 -- A machine as a value: its parts, and the state of the flat machine for which they stand.
 use Rattle.std.specs.Prelude.{◌≡◌, ◌<◌, List, length}
+use Rattle.std.specs.List.{All}
+use Rattle.bn_types.specs.declared.decl.Decl.{Decl}
+use Rattle.bn_types.specs.declared.judged.Judged.{Judged}
 use Rattle.bn_types.specs.declared.row.Row.{Row}
 use Rattle.bn_model.specs.Nesting.{IsNested}
 use Rattle.bn_model.specs.Rows.{owners}
@@ -20,3 +23,9 @@ pub record HasParts (unit : Backing) (rows : List Row) (harts : List Hart) : Typ
   pub nested : IsNested unit.nest
   pub owned : unit.live ≡ owners rows
   pub some : 0 < length harts
+
+-- there is room for a launched module and an id, and its pages lie in RAM
+pub record HasRoomFor (s : State) (judged : Judged) : Type 0 where
+  pub room : length s.rows < 15
+  pub ids : s.next < 65536
+  pub inside : All (λ (decl : Decl). decl.gpn.0 < length s.pages) judged.decls.items

@@ -8,11 +8,11 @@ ghost use Rattle.bn_model.specs.Standing.{StandsFor};
 ghost use Rattle.bn_machine.specs.Loads.{opening_of};
 ghost use Rattle.bn_unit.specs.Memory.{AllPlaced};
 
+use crate::engine::Engine;
 use crate::hart::Hart;
 use crate::machine::Machine;
 use crate::{Loaded, Settings};
 use bn_frames::Frames;
-use bn_table::Table;
 use bn_types::{Frame, Gpn, NoMemory, Width};
 use bn_unit::Unit;
 use n_walk::{Nest, PoolEmpty};
@@ -42,39 +42,24 @@ impl Machine {
         let nest = place_image(frames, settings.ram_pages, &image.bytes);
         let unit = Unit::build(alloc, nest, settings.ram_pages, settings.harts)?;
         let harts = start_harts(alloc, settings.harts, image.entry)?;
-        let machine = assemble(unit, harts);
+        let engine = Engine::of(unit, harts);
         // For the prover: the parts stand for a state of the flat machine.
-        machine.stand();
-        Ok(machine)
+        engine.stand();
+        Ok(begin(engine, settings, &image.bytes, image.entry))
     }
 }
 
-/// The machine of a unit and harts that has made no event and launched no module.
-#[tactic(auto, unfolding(bn_model::specs::Rows::owners))]
-fn assemble(unit: Unit, harts: Vec<Hart>) -> Machine
-    requires some { 0 < length harts.items }
-    requires unowned { unit.live ≡ [] }
-    ensures nest { result.parts.nest ≡ unit.nest }
-    ensures state { result.state ≡ record {
-      pages = contents unit.nest;
-      harts = harts.items;
-      rows = [];
-      records = [];
-      keys = [];
-      next = 1;
-      clock = 0;
-      off = false;
-    } }
+/// The machine whose parts stand for the opening state.
+fn begin(engine: Engine, settings: Settings, bytes: &[u8], entry: u64) -> Machine
+    requires pages { (0 < settings.ram_pages) × (settings.ram_pages ≤ 4096) }
+    requires harts { (0 < settings.harts) × (settings.harts ≤ 4) }
+    requires whole { length bytes.now ≡ 4096 * settings.ram_pages }
+    requires entry { entry % 4 ≡ 0 }
+    requires opens { engine.state ≡ flat.opening settings.ram_pages settings.harts
+        (record { bytes = bytes.now; entry = entry }) [] }
+    ensures { result ≡ engine }
 {
-    // For the prover: what holds of every unit.
-    unit.facts();
-    Machine {
-        unit,
-        table: Table::empty(),
-        harts,
-        clock: 0,
-        off: false,
-    }
+    Machine { engine }
 }
 
 /// As many frames as the nested tables have, one for each page, and some to spare.

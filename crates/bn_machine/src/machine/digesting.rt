@@ -24,7 +24,8 @@ impl Machine {
         ensures read { steps.new
             ≡ steps.old + 3 * count_by is_some (visible (memory self.now.state)) }
     {
-        Digest(digest_pages(&self.unit.view(), self.unit.ram_pages(), steps))
+        let unit = self.engine.unit();
+        Digest(digest_pages(&unit.view(), unit.ram_pages(), steps))
     }
 }
 

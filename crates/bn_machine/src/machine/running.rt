@@ -18,8 +18,7 @@ impl Machine {
     /// Makes turns of hart 0, at most `limit`, and writes their lines.
     ///
     /// `SinkFailed` comes exactly where writing failed; the machine then stands after the event
-    /// whose lines
-    /// couldn't all be written.
+    /// whose lines couldn't all be written.
     pub fn run<O: Sink, L: Ledger>(
         &mut self,
         limit: u64,
@@ -39,7 +38,7 @@ impl Machine {
             (O.account out.old).faults (O.account out.new).faults }
     {
         // For the prover: hart 0 is there.
-        self.has_harts();
+        self.engine.stand();
         let mut lines = LineBuf::new();
         for _turn in 0..limit {
             match self.turn(Event::Turn(0), &mut lines, steps) {
@@ -52,13 +51,5 @@ impl Machine {
             }
         }
         Ok(Ending::Limit)
-    }
-
-    /// There is a hart.
-    fn has_harts(&self)
-        ensures { 0 < length self.now.state.harts }
-    {
-        // For the prover: reading a field tells what the invariant says of it.
-        let _harts = &self.harts;
     }
 }

@@ -13,7 +13,7 @@ use Rattle.bn_machine.proofs.machine.Machine.run.Goals as goal
 pub loop-turn-init : goal.loop-turn-init
 loop-turn-init g c = record {
   underway = underway_at_start c.args.self.now.state c.args.limit (g.O.Sink.account c.args.out.now)
-      c.requires.on c.has_harts.ensures;
+      c.requires.on (rw (← c.self.view_is) (c.stand.ensures.some));
   quiet = λ can. refl;
 }
 

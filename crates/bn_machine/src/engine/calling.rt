@@ -5,7 +5,7 @@ ghost use Rattle.bn_model.specs.Hypervisor.{ask_by, call_of};
 ghost use Rattle.bn_machine.specs.Making.{Makes};
 ghost use Rattle.bn_machine.specs.Outside.{hart_outside};
 
-use crate::machine::Machine;
+use crate::engine::Engine;
 use crate::{LineBuf, Unbuilt};
 use bn_types::{Cause, Mode, Regs};
 
@@ -26,7 +26,7 @@ const HART_STATE_MANAGEMENT: u64 = 0x48534d;
 
 const SEND_IPI: u64 = 0x735049;
 
-impl Machine {
+impl Engine {
     /// ECALL of hart h.
     #[tactic(auto, unfolding(bn_model::specs::Hypervisor::ask_of))]
     pub(super) fn call_environment(&mut self, h: u8, lines: &mut LineBuf) -> Result<(), Unbuilt>

@@ -7,18 +7,20 @@ ghost use Rattle.bn_model.specs.Deciding.{counters_of, decision_of_csr, decision
 ghost use Rattle.bn_model.specs.Deciding.{decision_of_load, decision_of_secure, decision_of_store};
 ghost use Rattle.bn_model.specs.Decision as turn;
 ghost use Rattle.bn_model.specs.Decision.{Decision};
-ghost use Rattle.bn_model.specs.InsnRanges.{IsActInRange};
+ghost use Rattle.bn_model.specs.InsnRanges.{IsActInRange, IsSecureInRange};
 ghost use Rattle.bn_model.specs.Interrupts.{wires_of};
 ghost use Rattle.bn_model.specs.Legality as flat_legality;
-ghost use Rattle.bn_model.specs.State.{asker, memory};
+ghost use Rattle.bn_model.specs.Soundness.{IsSound};
+ghost use Rattle.bn_model.specs.State.{asker, memory, value_of};
 ghost use Rattle.bn_machine.specs.Built.{is_built_turn};
+ghost use Rattle.bn_machine.specs.Costs.{CountsAct};
 ghost use Rattle.bn_machine.specs.Making.{IsMade, Makes, MakesAct};
 ghost use Rattle.bn_machine.specs.Outside.{hart_outside};
 ghost use Rattle.bn_machine.specs.Within.{JumpsAligned};
 ghost use Rattle.rv_csr.specs.Outcomes.{DoesCsr};
 
-use crate::machine::Machine;
-use crate::machine::turning::ILLEGAL_INSTRUCTION;
+use crate::engine::Engine;
+use crate::engine::turning::ILLEGAL_INSTRUCTION;
 use crate::{LineBuf, Unbuilt};
 use bn_types::{Act, Cause, Fault, Kind, Mode, Reg, Secure, Steps, Width};
 use rv_csr::{CsrAsked, Csrs, Illegal};
@@ -27,7 +29,7 @@ use std::sync::ledger::Ledger;
 
 const BREAKPOINT: Cause = Cause(3);
 
-impl Machine {
+impl Engine {
     /// Carries out what hart h's instruction asks for.
     pub(super) fn carry_out<L: Ledger>(
         &mut self,
@@ -36,13 +38,14 @@ impl Machine {
         lines: &mut LineBuf,
         steps: &mut Steps<L>,
     ) -> Result<(), Unbuilt>
+        requires sound { IsSound self.old.state }
         requires hart { h < length self.old.state.harts }
         requires clock { self.old.state.clock < 2 ^ 64 - 1 }
         requires range { IsActInRange act }
         requires aligned { JumpsAligned act }
         requires empty { lines.old ≡ [] }
         ensures made { MakesAct result self.old.state self.new.state lines.new h act }
-        ensures few { steps.new ≤ steps.old + 15 }
+        ensures few { CountsAct act 15 steps.old steps.new }
     {
         match act {
             Act::Set { rd, value } => {
@@ -101,7 +104,7 @@ impl Machine {
                 self.go_on_or_trap(h, lines);
                 Ok(())
             }
-            Act::Bastion(secure) => self.carry_out_secure(h, &secure, lines),
+            Act::Bastion(secure) => self.carry_out_secure(h, &secure, lines, steps),
             Act::Trap { cause, value } => {
                 self.trap(h, cause, value, lines);
                 Ok(())
@@ -235,29 +238,46 @@ impl Machine {
         }
     }
 
-    /// A secure instruction; none that is legal is built yet.
-    #[tactic(auto, using(crate::proofs::LeftTurns::call_unbuilt, crate::proofs::LeftTurns::evict_unbuilt, crate::proofs::LeftTurns::launch_unbuilt))]
-    fn carry_out_secure(
+    /// A secure instruction. Of those that are legal launches alone are built yet.
+    #[tactic(auto, using(crate::proofs::LeftTurns::call_unbuilt, crate::proofs::LeftTurns::evict_unbuilt))]
+    fn carry_out_secure<L: Ledger>(
         &mut self,
         h: u8,
         secure: &Secure,
         lines: &mut LineBuf,
+        steps: &mut Steps<L>,
     ) -> Result<(), Unbuilt>
+        requires sound { IsSound self.old.state }
         requires hart { h < length self.old.state.harts }
         requires clock { self.old.state.clock < 2 ^ 64 - 1 }
+        requires range { IsSecureInRange secure.now }
         requires empty { lines.old ≡ [] }
         ensures made { let s = self.old.state in Makes result self.old.state self.new.state
             lines.new h
             (decision_of_secure s (hart_outside s h) secure.now) }
     {
         match secure {
-            Secure::Launch { .. } | Secure::Evict { .. } => self.refuse_user(h, lines),
+            Secure::Launch { rd, at } => {
+                let at = self.register(h, *at);
+                self.launch_or_trap(h, *rd, at, lines, steps);
+                Ok(())
+            }
+            Secure::Evict { .. } => self.refuse_user(h, lines),
             Secure::Call { .. } | Secure::Ident { .. } => Err(Unbuilt),
             _ => {
                 self.trap(h, ILLEGAL_INSTRUCTION, 0, lines);
                 Ok(())
             }
         }
+    }
+
+    /// What hart h's register holds.
+    fn register(&self, h: u8, register: Reg) -> u64
+        requires hart { h < length self.now.state.harts }
+        requires register { register.0 < 32 }
+        ensures { result ≡ value_of (hart_outside self.now.state h) register }
+    {
+        self.harts[h as usize].regs().x[register.0 as usize]
     }
 
     /// What mode S alone may ask for isn't built yet.

@@ -6,11 +6,11 @@ ghost use Rattle.bn_model.specs.State.{asker, memory};
 ghost use Rattle.bn_machine.specs.Outside.{hart_outside};
 ghost use Rattle.bn_unit.specs.Memory.{Completes};
 
-use crate::machine::Machine;
+use crate::engine::Engine;
 use bn_types::{Fault, Kind, Steps, Width};
 use std::sync::ledger::Ledger;
 
-impl Machine {
+impl Engine {
     /// The word at hart h's pc.
     pub(super) fn fetch<L: Ledger>(&mut self, h: u8, steps: &mut Steps<L>) -> Result<u32, Fault>
         requires { h < length self.old.state.harts }

@@ -1,15 +1,18 @@
 //! What turns come to, made: each of these ends an event.
-ghost use Rattle.std.specs.Prelude.{◌≡◌, ◌-◌, ◌^◌, ◌<◌, ◌%◌, [], length};
+ghost use Rattle.std.specs.Prelude.{◌≡◌, ◌-◌, ◌^◌, ◌<◌, ◌%◌, ℕ, [], length};
 ghost use Rattle.bn_model.specs.Decision as turn;
+ghost use Rattle.bn_model.specs.Refusals.{minus, minus_in_64_bits};
+ghost use Rattle.bn_model.specs.Stepping.{after_launch};
 ghost use Rattle.bn_model.specs.Walking as walking;
-ghost use Rattle.bn_machine.specs.Making.{state_after, text_after};
+ghost use Rattle.bn_machine.specs.Making.{IsRefusalCode, state_after, text_after};
+ghost use Rattle.bn_machine.specs.Standing.{HasRoomFor};
 
 use crate::LineBuf;
-use crate::machine::Machine;
-use bn_types::{Cause, Kind, Line, ModId, Reg, Vpn};
+use crate::engine::Engine;
+use bn_types::{Cause, Judged, Kind, Line, ModId, Reg, Request, Vpn};
 use rv_csr::Csrs;
 
-impl Machine {
+impl Engine {
     pub(super) fn rest(&mut self)
         requires { self.old.state.clock < 2 ^ 64 - 1 }
         ensures { self.new.state ≡ state_after self.old.state 0 turn.Rest }
@@ -100,6 +103,81 @@ impl Machine {
         self.clock += 1;
     }
 
+    /// Sets rd to a refusal's code.
+    pub(super) fn refuse(
+        &mut self,
+        hart: u8,
+        rd: Reg,
+        request: Request,
+        code: i64,
+        lines: &mut LineBuf,
+    )
+        requires hart { hart < length self.old.state.harts }
+        requires clock { self.old.state.clock < 2 ^ 64 - 1 }
+        requires register { rd.0 < 32 }
+        requires code { IsRefusalCode code }
+        requires empty { lines.old ≡ [] }
+        ensures stepped { (number : ℕ) → code ≡ minus number → self.new.state
+            ≡ state_after self.old.state hart (turn.Refuse rd request number) }
+        ensures told { (number : ℕ) → code ≡ minus number → lines.new
+            ≡ text_after self.old.state hart (turn.Refuse rd request number) }
+    {
+        lines.push(&Line::Refuse {
+            n: self.clock,
+            h: hart,
+            w: request,
+            r: code,
+        });
+        self.harts[hart as usize].go_on_with(rd, in_64_bits(code));
+        self.clock += 1;
+    }
+
+    /// Launches a judged module, and sets rd to its id.
+    pub(super) fn launch_module(
+        &mut self,
+        hart: u8,
+        rd: Reg,
+        judged: Judged,
+        lines: &mut LineBuf,
+    )
+        requires hart { hart < length self.old.state.harts }
+        requires clock { self.old.state.clock < 2 ^ 64 - 1 }
+        requires register { rd.0 < 32 }
+        requires room { HasRoomFor self.old.state judged }
+        requires empty { lines.old ≡ [] }
+        ensures stepped { self.new.state ≡ state_after self.old.state hart (turn.Launch rd judged) }
+        ensures told { lines.new ≡ text_after self.old.state hart (turn.Launch rd judged) }
+    {
+        let digest = judged.digest;
+        let id = self.enter(judged);
+        lines.push(&Line::Launch {
+            n: self.clock,
+            h: hart,
+            m: id,
+            i: digest,
+        });
+        self.harts[hart as usize].go_on_with(rd, u64::from(id.0));
+        self.clock += 1;
+    }
+
+    /// Enters a judged module in the table, and its declarations in the index of owners.
+    #[tactic(auto, using(crate::proofs::Launches::length_owners, crate::proofs::Launches::row_found, crate::proofs::Launches::owners_more))]
+    fn enter(&mut self, judged: Judged) -> ModId
+        requires { HasRoomFor self.old.state judged }
+        ensures id { result.0 ≡ self.old.state.next }
+        ensures entered { self.new.state ≡ after_launch self.old.state judged }
+    {
+        // For the prover: what holds of every table and every unit.
+        self.table.facts();
+        self.unit.facts();
+        let id = self.table.add(judged);
+        match self.table.row(id) {
+            Some(row) => self.unit.own(row),
+            None => unreachable!(),
+        }
+        id
+    }
+
     pub(super) fn return_from_trap(&mut self, hart: u8)
         requires hart { hart < length self.old.state.harts }
         requires clock { self.old.state.clock < 2 ^ 64 - 1 }
@@ -154,4 +232,12 @@ fn access_fault(kind: Kind) -> Cause
         Kind::Load => Cause(5),
         Kind::Store => Cause(7),
     }
+}
+
+/// A refusal's code in 64 bits.
+fn in_64_bits(code: i64) -> u64
+    requires { IsRefusalCode code }
+    ensures { (number : ℕ) → code ≡ minus number → result ≡ minus_in_64_bits number }
+{
+    code.unsigned_abs().wrapping_neg()
 }

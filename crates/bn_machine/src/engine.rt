@@ -1,0 +1,109 @@
+ghost use Rattle.std.specs.Prelude.{◌≡◌, ◌<◌, [], false, length};
+ghost use Rattle.bn_model.specs.Nesting.{contents};
+ghost use Rattle.bn_model.specs.Standing.{StandsFor};
+ghost use Rattle.bn_model.specs.State.{memory};
+ghost use Rattle.bn_unit.specs.Memory.{memory_of};
+
+use crate::hart::Hart;
+use bn_table::Table;
+use bn_unit::Unit;
+use std::marker::Model;
+
+mod calling;
+mod carrying;
+mod launching;
+mod making;
+mod reaching;
+mod turning;
+
+/// The parts of a machine: memory, live modules, harts and the clock, and how turns are made over
+/// them.
+#[derive(Drop)]
+pub(crate) struct Engine {
+    unit: Unit,
+    table: Table,
+    harts: Vec<Hart>,
+    clock: u64,
+    off: bool,
+}
+
+impl Model for Engine {
+    ghost use Rattle.std.specs.Prelude.{[]};
+    ghost use Rattle.bn_machine.specs.Standing.{HasParts, Standing, standing};
+
+    ghost Value = { Standing };
+
+    ghost view = { λ e. standing (record {
+      nest = e.unit.nest;
+      harts = e.harts.items;
+      rows = e.table.rows;
+      records = [];
+      keys = [];
+      next = e.table.next;
+      clock = e.clock;
+      off = e.off;
+    }) };
+
+    ghost invariant = { λ e. HasParts e.unit e.table.rows e.harts.items };
+}
+
+impl Engine {
+    /// The parts of a machine that has made no event and launched no module.
+    #[tactic(auto, unfolding(bn_model::specs::Rows::owners))]
+    pub(crate) fn of(unit: Unit, harts: Vec<Hart>) -> Engine
+        requires some { 0 < length harts.items }
+        requires unowned { unit.live ≡ [] }
+        ensures nest { result.parts.nest ≡ unit.nest }
+        ensures state { result.state ≡ record {
+          pages = contents unit.nest;
+          harts = harts.items;
+          rows = [];
+          records = [];
+          keys = [];
+          next = 1;
+          clock = 0;
+          off = false;
+        } }
+    {
+        // For the prover: what holds of every unit.
+        unit.facts();
+        Engine {
+            unit,
+            table: Table::empty(),
+            harts,
+            clock: 0,
+            off: false,
+        }
+    }
+
+    /// Whether the guest has shut the machine down.
+    pub(crate) fn is_off(&self) -> bool
+        ensures { result ≡ self.now.state.off }
+    {
+        self.off
+    }
+
+    /// How many events were made.
+    pub(crate) fn clock(&self) -> u64
+        ensures { result ≡ self.now.state.clock }
+    {
+        self.clock
+    }
+
+    /// The guest's memory.
+    pub(crate) fn unit(&self) -> &Unit
+        ensures { memory_of result.now ≡ memory self.now.state }
+    {
+        &self.unit
+    }
+
+    /// The parts stand for a state of the flat machine at all times, and there is a hart. It does
+    /// nothing.
+    pub(crate) fn stand(&self)
+        ensures stands { StandsFor self.now.parts self.now.state }
+        ensures some { 0 < length self.now.state.harts }
+    {
+        // For the prover: reading a field tells what the invariant says of it.
+        let _unit = &self.unit;
+    }
+}
