@@ -2,10 +2,9 @@
 use Rattle.std.proofs.Common.{◌≡◌, ℕ, zero, suc, List, Option, Some, None, option_map, refl}
 use Rattle.std.proofs.Common.{sym, ap, subst, ◌∙◌, arith}
 use Rattle.bn_types.specs.Registers.{zero_frame}
-use Rattle.bn_types.specs.declared.mod_id.ModId.{ModId}
 use Rattle.bn_types.specs.declared.row.Row.{Row}
 use Rattle.bn_types.specs.declared.row_state.RowState.{RowState}
-use Rattle.bn_types.specs.declared.row_state.RowState.TheVariants.{Idle, Running, Waiting, Stopped}
+use Rattle.bn_types.specs.declared.row_state.RowState.TheVariants.{Idle, Waiting}
 use Rattle.bn_types.specs.declared.saved_frame.SavedFrame.{SavedFrame}
 use Rattle.bn_model.specs.Deciding.{caller_of}
 use Rattle.bn_model.specs.Rows.{row_of, saved_of, with_row}

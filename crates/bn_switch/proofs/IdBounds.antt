@@ -1,10 +1,9 @@
 -- The ids of a table's rows are at least 1 and below the next.
-use Rattle.std.proofs.Common.{◌≡◌, ℕ, ◌<◌, ◌≤◌, ◌^◌, true, Option, Some, None, is_some, List, refl, ap, arith}
+use Rattle.std.proofs.Common.{◌≡◌, ℕ, ◌<◌, ◌≤◌, ◌^◌, Option, Some, None, is_some, refl, ap, arith}
 use Rattle.std.proofs.Common.{◌∙◌, sym}
 use Rattle.bn_types.specs.declared.row.Row.{Row}
 use Rattle.bn_types.specs.declared.row_state.RowState.{RowState}
-use Rattle.bn_model.specs.Owners.{is_live}
-use Rattle.bn_model.specs.Rows.{owners, row_of}
+use Rattle.bn_model.specs.Rows.{row_of}
 use Rattle.bn_model.specs.Soundness.{state_at, state_if_some}
 use Rattle.bn_model.proofs.IdLemmas.{live-between}
 use Rattle.bn_model.proofs.RowLemmas.{is_live-row_of}

@@ -1,7 +1,7 @@
-use Rattle.std.proofs.Common.{ap, subst, sym, ◌∙◌, ◌≡◌, ℕ, List}
+use Rattle.std.proofs.Common.{ap, subst, List}
 use Rattle.bn_types.specs.declared.row.Row.{Row}
 use Rattle.bn_model.specs.Soundness.{state_at}
-use Rattle.bn_table.specs.Tables.{IsRunning, Tabled}
+use Rattle.bn_table.specs.Tables.{IsRunning}
 use Rattle.bn_switch.specs.Contexts.{IsSeated}
 use Rattle.bn_switch.proofs.HandoverLemmas.{idle-after_wait, may_call-after_wait, rows-after_call}
 use Rattle.bn_switch.proofs.entering.hand_over.Goals as goal

@@ -1,4 +1,4 @@
-use Rattle.std.proofs.Common.{◌∙◌, ap}
+use Rattle.std.proofs.Common.{◌∙◌}
 use Rattle.bn_switch.proofs.HandoverLemmas.{answered-after_return, saved-after_return}
 use Rattle.bn_switch.proofs.returning.give_back.Goals as goal
 
