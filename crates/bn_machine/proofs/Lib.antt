@@ -6,6 +6,7 @@ pub mod Launches
 pub mod Numerals
 pub mod Offers
 pub mod PublicPages
+pub mod Reached
 pub mod Runs
 pub mod Serving
 pub mod Switches

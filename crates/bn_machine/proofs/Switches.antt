@@ -226,17 +226,23 @@ pub state_called : (s t u v : State) (h : ℕ) (rd : Reg) (id entry : ℕ) (here
     → h < length s.harts → StandsIn here (hart_at s h)
     → StandsIn callee (hart_after_call (hart_of here) id entry)
     → t ≡ left s h
-    → u ≡ record t { rows = rows_after_call (module_in here.seat).0 h id
-    (frame_of_call (hart_of here) rd) t.rows }
+    → u ≡ record t {
+      rows = rows_after_call (module_in here.seat).0 h id
+          (frame_of_call (hart_of here) rd) t.rows;
+    }
     → v ≡ state_in_context u h callee → v ≡ state_after s h (Call rd id entry)
 state_called s t u v h rd id entry here callee within stands goes e f g =
     g ∙ ap (λ (x : State). state_in_context x h callee)
-    (f ∙ ap (λ (x : State). record x { rows = rows_after_call (module_in here.seat).0 h id
-    (frame_of_call (hart_of here) rd) x.rows }) e)
+    (f ∙ ap (λ (x : State). record x {
+      rows = rows_after_call (module_in here.seat).0 h id
+          (frame_of_call (hart_of here) rd) x.rows;
+    }) e)
     ∙ settled-on s h _ callee (hart_after_call (hart_of here) id entry) within goes
     ∙ ap (λ (x : Hart).
-    after_tick (with_hart (record s { rows = rows_after_call x.current.0 h id (frame_of_call x rd)
-    s.rows }) h
+    after_tick (with_hart (record s {
+      rows = rows_after_call x.current.0 h id (frame_of_call x rd)
+          s.rows;
+    }) h
     (record (with_context (hart_at s h) (hart_after_call x id entry))
     { retired = one_more (hart_at s h).retired })))
     (plain-is here (hart_at s h) stands)
@@ -260,8 +266,10 @@ state_returned s t u v h pc here back within stands goes e f g =
     StandsIn back (hart_after_return (hart_of here) caller (frame_of_caller caller.0 rows m.0)))
     at goes in
     g ∙ ap (λ (x : State). state_in_context x h back)
-    (f ∙ ap (λ (x : State). record x { rows = rows_after_return
-    (caller_of (row_of x.rows m.0)).0 h m.0 x.rows }) e)
+    (f ∙ ap (λ (x : State). record x {
+      rows = rows_after_return
+          (caller_of (row_of x.rows m.0)).0 h m.0 x.rows;
+    }) e)
     ∙ settled-on s h _ back _ within goes-on
     ∙ ap (λ (x : Hart).
     let caller = caller_of (row_of s.rows x.current.0) in
@@ -274,13 +282,17 @@ state_returned s t u v h pc here back within stands goes e f g =
 pub state_stopped : (s t u v : State) (h : ℕ) (here out : Context) → h < length s.harts
     → StandsIn here (hart_at s h) → StandsIn out (hart_after_stop (hart_of here))
     → t ≡ left s h
-    → u ≡ record t { rows = with_row (module_in here.seat).0
-    (row_after_stop (frame_of (hart_of here))) t.rows }
+    → u ≡ record t {
+      rows = with_row (module_in here.seat).0
+          (row_after_stop (frame_of (hart_of here))) t.rows;
+    }
     → v ≡ with_hart u h (hart_in_context (hart_at u h) out) → v ≡ state_after_stop s h
 state_stopped s t u v h here out within stands goes e f g =
     g ∙ ap (λ (x : State). with_hart x h (hart_in_context (hart_at x h) out))
-    (f ∙ ap (λ (x : State). record x { rows = with_row (module_in here.seat).0
-    (row_after_stop (frame_of (hart_of here))) x.rows }) e)
+    (f ∙ ap (λ (x : State). record x {
+      rows = with_row (module_in here.seat).0
+          (row_after_stop (frame_of (hart_of here))) x.rows;
+    }) e)
     ∙ settled s h _ out (hart_after_stop (hart_of here)) within goes
     ∙ ap (λ (x : Hart).
     with_hart (record s { rows = with_row x.current.0 (row_after_stop (frame_of x)) s.rows }) h

@@ -64,7 +64,11 @@ impl Engine {
             result ≡ ask_of (hart_at s h).regs (length s.harts) (map is_started s.harts) }
     {
         let started = which_are_started(&self.harts);
-        ask(self.harts[h as usize].regs(), self.harts.len() as u8, &started)
+        ask(
+            self.harts[h as usize].regs(),
+            self.harts.len() as u8,
+            &started,
+        )
     }
 }
 

@@ -80,12 +80,7 @@ impl Engine {
 
     /// An instruction of opcode SYSTEM, which is illegal in a module.
     #[tactic(auto, using(crate::proofs::Inside::system_inside, crate::proofs::Inside::system_outside))]
-    fn carry_out_system(
-        &mut self,
-        h: u8,
-        act: Act,
-        lines: &mut LineBuf,
-    ) -> Result<(), Unbuilt>
+    fn carry_out_system(&mut self, h: u8, act: Act, lines: &mut LineBuf) -> Result<(), Unbuilt>
         requires sound { IsSound self.old.state }
         requires hart { h < length self.old.state.harts }
         requires clock { self.old.state.clock < 2 ^ 64 - 1 }
@@ -101,12 +96,7 @@ impl Engine {
         self.carry_out_outside(h, act, lines)
     }
 
-    fn carry_out_outside(
-        &mut self,
-        h: u8,
-        act: Act,
-        lines: &mut LineBuf,
-    ) -> Result<(), Unbuilt>
+    fn carry_out_outside(&mut self, h: u8, act: Act, lines: &mut LineBuf) -> Result<(), Unbuilt>
         requires sound { IsSound self.old.state }
         requires hart { h < length self.old.state.harts }
         requires clock { self.old.state.clock < 2 ^ 64 - 1 }

@@ -200,13 +200,7 @@ impl Engine {
     }
 
     /// Launches a judged module, and sets rd to its id.
-    pub(super) fn launch_module(
-        &mut self,
-        hart: u8,
-        rd: Reg,
-        judged: Judged,
-        lines: &mut LineBuf,
-    )
+    pub(super) fn launch_module(&mut self, hart: u8, rd: Reg, judged: Judged, lines: &mut LineBuf)
         requires hart { hart < length self.old.state.harts }
         requires clock { self.old.state.clock < 2 ^ 64 - 1 }
         requires register { rd.0 < 32 }

@@ -94,13 +94,7 @@ impl Engine {
 
     /// Evictions, of which those in mode U alone are built yet: they trap.
     #[tactic(auto, using(crate::proofs::LeftTurns::evict_unbuilt))]
-    fn refuse_user(
-        &mut self,
-        h: u8,
-        rd: Reg,
-        id: Reg,
-        lines: &mut LineBuf,
-    ) -> Result<(), Unbuilt>
+    fn refuse_user(&mut self, h: u8, rd: Reg, id: Reg, lines: &mut LineBuf) -> Result<(), Unbuilt>
         requires sound { IsSound self.old.state }
         requires hart { h < length self.old.state.harts }
         requires clock { self.old.state.clock < 2 ^ 64 - 1 }
