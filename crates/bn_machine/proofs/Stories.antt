@@ -20,9 +20,12 @@ use Rattle.bn_model.specs.State.{State}
 use Rattle.bn_model.specs.Words.{RunOrder, order_of}
 use Rattle.bn_machine.specs.Built.{is_built_event}
 use Rattle.bn_model.proofs.ChangeLemmas.{changes-are-touched}
+use Rattle.bn_model.proofs.StartLemmas.{modules-start}
 use Rattle.bn_model.proofs.TouchLemmas.{touches-are-admitted}
 use Rattle.bn_machine.specs.Headline.{CountsMiss, IsAdmitted, IsDue, IsQuiet, Outside, Promise}
-use Rattle.bn_machine.specs.Headline.{WritesReport}
+use Rattle.bn_machine.specs.Headline.{StartsModules, WritesReport}
+use Rattle.bn_machine.specs.Runs.{HoldBytes, RunMakes}
+use Rattle.bn_machine.proofs.Reached.{reached-sound}
 use Rattle.bn_machine.specs.Story.{Answers, CountsSinkFault, IsStory, WasDue}
 use Rattle.bn_machine.specs.Telling.{FinishesRun}
 use Rattle.bn_machine.proofs.Wrote.{appended-append}
@@ -171,6 +174,12 @@ admitted s event = record {
   changes = changes-are-touched s event;
 }
 
+starts : (words : List (List ℕ)) (files : Files) (s : State) (event : Event) → HoldBytes files
+    → RunMakes words files s event → StartsModules s event
+starts words files s event bytes made h m before after =
+    let reached = reached-sound words files s event bytes made in
+    modules-start s event h m reached.1 reached.0 before after
+
 -- ---- the promise
 
 -- a report was due
@@ -258,6 +267,7 @@ promise words answer.Memory old new s c = record {
   untouched = λ e. s.untouched;
   uncounted = λ e. s.missed;
   touched = λ files s event made. admitted s event;
+  started = starts words;
 }
 promise words answer.SinkFault old new s c =
     let broken = λ (work : IsQuiet old.sink.faults new.sink.faults).
@@ -272,6 +282,7 @@ promise words answer.SinkFault old new s c =
       untouched = λ e. cc;
       uncounted = λ e. cc;
       touched = λ files s event made. admitted s event;
+      started = starts words;
     }
 promise words status old new s c = record {
   exact = λ work memory. reported words old new status s (λ e. cc) (λ e. cc) work.1;
@@ -284,4 +295,5 @@ promise words status old new s c = record {
   untouched = λ e. cc;
   uncounted = λ e. cc;
   touched = λ files s event made. admitted s event;
+  started = starts words;
 }

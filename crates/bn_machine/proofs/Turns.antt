@@ -1,5 +1,5 @@
 -- How the parts of a turn join.
-use Rattle.std.proofs.Common.{◌≡◌, ℕ, ◌+◌, ◌<◌, ◌≤◌, true, false, length, List, [], Option, Some}
+use Rattle.std.proofs.Common.{◌≡◌, ℕ, zero, suc, ◌+◌, ◌<◌, ◌≤◌, true, false, length, List, [], Option, Some}
 use Rattle.std.proofs.Common.{None, Result, Ok, Err, refl, sym, ap, ◌∙◌, subst, arith}
 use Rattle.bn_types.specs.declared.act.Act.{Act}
 use Rattle.bn_types.specs.declared.act.Act.TheVariants as act
@@ -27,57 +27,36 @@ use Rattle.bn_model.proofs.SoundKept.{sound-kept}
 use Rattle.bn_machine.specs.declared.unbuilt.Unbuilt.{Unbuilt}
 use Rattle.bn_machine.specs.Built.{is_built_turn}
 use Rattle.bn_machine.specs.Costs.{CountsAct, CountsAsked, CountsTurn}
-use Rattle.bn_machine.specs.Making.{IsMade, IsTurn, Makes, MakesAsked, MakesTurn}
-use Rattle.bn_machine.specs.Outside.{hart_outside}
+use Rattle.bn_machine.specs.Making.{IsMade, Makes, MakesAsked, MakesTurn}
 
 -- the answer of hart h's fetch
 abbrev pub fetched : State → ℕ → Result ℕ Fault
 fetched s h =
-    let hart = hart_outside s h in
+    let hart = hart_at s h in
     answer_of_load s.pages B4 (access (memory s) (asker h hart) kind.Fetch hart.pc B4)
 
 -- a word was fetched, and what it asks for was made
 pub made-fetched : (result : Result Unit Unbuilt) (s t new : State) (text : List ℕ) (h word : ℕ)
     → t ≡ s → fetched s h ≡ Ok word
-    → MakesAsked result t new text h (asked_of_insn (hart_outside t h) (insn_of word))
-    → MakesAsked result s new text h (asked_of_interrupt s h (hart_outside s h) None)
+    → MakesAsked result t new text h (asked_of_insn (hart_at t h) (insn_of word))
+    → MakesAsked result s new text h (asked_of_interrupt s h (hart_at s h) None)
 made-fetched result s t new text h word same e made =
     subst (λ (asked : Asked). MakesAsked result s new text h asked)
-    (sym (ap (asked_of_fetch s.rows (hart_outside s h)) e))
+    (sym (ap (asked_of_fetch s.rows (hart_at s h)) e))
     (subst (λ (t : State).
-    MakesAsked result t new text h (asked_of_insn (hart_outside t h) (insn_of word))) same made)
+    MakesAsked result t new text h (asked_of_insn (hart_at t h) (insn_of word))) same made)
 
 -- the fetch failed
-pub made-unfetched : (result : Result Unit Unbuilt) (s t new : State) (text : List ℕ) (h : ℕ)
+pub made-unfetched : (s t new : State) (text : List ℕ) (h : ℕ)
     (fault : Fault) → t ≡ s → fetched s h ≡ Err fault
-    → MakesAsked result t new text h (asked_of_denial t.rows (hart_outside t h) fault fault.denied)
-    → MakesAsked result s new text h (asked_of_interrupt s h (hart_outside s h) None)
-made-unfetched result s t new text h fault same e made =
-    subst (λ (asked : Asked). MakesAsked result s new text h asked)
-    (sym (ap (asked_of_fetch s.rows (hart_outside s h)) e))
+    → MakesAsked (Ok tt) t new text h (asked_of_fault (hart_at t h).current.0 t.rows (hart_at t h) fault)
+    → MakesAsked (Ok tt) s new text h (asked_of_interrupt s h (hart_at s h) None)
+made-unfetched s t new text h fault same e made =
+    subst (λ (asked : Asked). MakesAsked (Ok tt) s new text h asked)
+    (sym (ap (asked_of_fetch s.rows (hart_at s h)) e))
     (subst (λ (t : State).
-    MakesAsked result t new text h (asked_of_denial t.rows (hart_outside t h) fault fault.denied))
+    MakesAsked (Ok tt) t new text h (asked_of_fault (hart_at t h).current.0 t.rows (hart_at t h) fault))
     same made)
-
--- a turn of a hart that runs the untrusted world
-pub made-turn : (result : Result Unit Unbuilt) (s new : State) (text : List ℕ) (h : ℕ)
-    → hart_outside s h ≡ hart_at s h
-    → MakesAsked result s new text h (asked_of s h (hart_outside s h))
-    → MakesTurn result s new text h
-unfolding decision_of
-made-turn (Ok done) s new text h e made = record {
-  built = subst (λ (hart : Hart). is_built_turn (decision_of_hart s h hart) ≡ true) e made.built;
-  stepped = subst (λ (hart : Hart). new ≡ after_turn s h hart (decision_of_hart s h hart)) e
-      made.stepped;
-  told = subst (λ (hart : Hart).
-      text ≡ text_of (lines_of_turn s.clock s.next h hart (decision_of_hart s h hart))) e made.told;
-}
-made-turn (Err unbuilt) s new text h e left = record {
-  unbuilt = subst (λ (hart : Hart). is_built_turn (decision_of_hart s h hart) ≡ false) e
-      left.unbuilt;
-  same = left.same;
-  empty = left.empty;
-}
 
 -- a turn keeps soundness
 pub sound-turn : (result : Result Unit Unbuilt) (s new : State) (text : List ℕ) (h : ℕ)
@@ -117,39 +96,36 @@ counted-more (Acting asked) old mid new fetch count = by_act asked count
 -- a word was fetched
 pub counted-fetched : (s t : State) (h word old mid new : ℕ) → t ≡ s → fetched s h ≡ Ok word
     → mid ≤ old + 15
-    → CountsAsked (asked_of_insn (hart_outside t h) (insn_of word)) 15 mid new
-    → CountsAsked (asked_of_interrupt s h (hart_outside s h) None) 30 old new
+    → CountsAsked (asked_of_insn (hart_at t h) (insn_of word)) 15 mid new
+    → CountsAsked (asked_of_interrupt s h (hart_at s h) None) 30 old new
 counted-fetched s t h word old mid new same e fetch count =
     subst (λ (asked : Asked). CountsAsked asked 30 old new)
-    (sym (ap (asked_of_fetch s.rows (hart_outside s h)) e))
-    (counted-more (asked_of_insn (hart_outside s h) (insn_of word)) old mid new fetch
+    (sym (ap (asked_of_fetch s.rows (hart_at s h)) e))
+    (counted-more (asked_of_insn (hart_at s h) (insn_of word)) old mid new fetch
     (subst (λ (t : State).
-    CountsAsked (asked_of_insn (hart_outside t h) (insn_of word)) 15 mid new) same count))
+    CountsAsked (asked_of_insn (hart_at t h) (insn_of word)) 15 mid new) same count))
 
 -- the fetch failed
 pub counted-unfetched : (s : State) (h : ℕ) (fault : Fault) (old mid : ℕ) → fetched s h ≡ Err fault
     → mid ≤ old + 15
-    → CountsAsked (asked_of_interrupt s h (hart_outside s h) None) 30 old mid
+    → CountsAsked (asked_of_interrupt s h (hart_at s h) None) 30 old mid
 counted-unfetched s h fault old mid e fetch =
     subst (λ (asked : Asked). CountsAsked asked 30 old mid)
-    (sym (ap (asked_of_fetch s.rows (hart_outside s h)) e))
-    (by_page fault.denied)
+    (sym (ap (asked_of_fetch s.rows (hart_at s h)) e))
+    (by_current (hart_at s h).current.0)
   where
     by_stopped : (id : Option ModId) → CountsAsked (asked_of_stopped fault id) 30 old mid
     by_stopped None = omega arith
     by_stopped (Some id) = omega arith
 
     by_page : (page : Option Gpn)
-        → CountsAsked (asked_of_denial s.rows (hart_outside s h) fault page) 30 old mid
+        → CountsAsked (asked_of_denial s.rows (hart_at s h) fault page) 30 old mid
     by_page None = omega arith
     by_page (Some page) =
-        by_stopped (stopped_at s.rows page.0 (vpn_of (hart_outside s h).pc)
-        (hart_outside s h).pc (hart_outside s h).mode)
+        by_stopped (stopped_at s.rows page.0 (vpn_of (hart_at s h).pc) (hart_at s h).pc
+        (hart_at s h).mode)
 
--- of a hart that runs the untrusted world
-pub counted-turn : (s : State) (h old new : ℕ) → hart_outside s h ≡ hart_at s h
-    → CountsAsked (asked_of s h (hart_outside s h)) 30 old new
-    → CountsTurn s h (hart_at s h) 30 old new
-unfolding CountsTurn
-counted-turn s h old new e count =
-    subst (λ (hart : Hart). CountsAsked (asked_of s h hart) 30 old new) e count
+    by_current : (current : ℕ)
+        → CountsAsked (asked_of_fault current s.rows (hart_at s h) fault) 30 old mid
+    by_current zero = by_page fault.denied
+    by_current (suc m) = omega arith

@@ -1,5 +1,5 @@
 -- What the code can do already, and what the program does as far as it is built.
-use Rattle.std.specs.Prelude.{ℕ, ◌==◌, Bool, true, false, List}
+use Rattle.std.specs.Prelude.{ℕ, Bool, true, false, List}
 use Rattle.bn_types.specs.declared.event.Event.{Event}
 use Rattle.bn_types.specs.declared.event.Event.TheVariants.{Turn}
 use Rattle.bn_types.specs.declared.request.Request.{Request}
@@ -7,18 +7,15 @@ use Rattle.bn_types.specs.declared.request.Request.TheVariants as request
 use Rattle.bn_model.specs.Deciding.{decision_of}
 use Rattle.bn_model.specs.Decision.{Decision, Rest, Trap, Deny, Next, Set, Jump, Store, Csr}
 use Rattle.bn_model.specs.Decision.{ReturnFromTrap, Put, Answer, ShutDown, Refuse, Launch}
-use Rattle.bn_model.specs.Hypervisor.{not_supported}
+use Rattle.bn_model.specs.Decision.{SetTimer, TakeKey, NoKey, Send, Call, Return, Resume, Tell}
 use Rattle.bn_model.specs.Reporting as flat
 use Rattle.bn_model.specs.Reporting.{Files, Report}
 use Rattle.bn_model.specs.State.{State}
 
--- the answer of a call that there isn't
-abbrev pub is_built_answer : (error : ℕ) → Bool
-is_built_answer error = error == not_supported
-
 -- a request that is refused
 abbrev pub is_built_request : Request → Bool
 is_built_request request.Launch = true
+is_built_request request.Call = true
 is_built_request other = false
 
 -- what the code can do already; a turn that isn't built changes nothing and has no line
@@ -33,10 +30,18 @@ is_built_turn (Store place width value) = true
 is_built_turn (Csr rd old csrs) = true
 is_built_turn ReturnFromTrap = true
 is_built_turn (Put byte) = true
-is_built_turn (Answer error) = is_built_answer error
+is_built_turn (Answer error) = true
 is_built_turn ShutDown = true
 is_built_turn (Refuse rd request code) = is_built_request request
 is_built_turn (Launch rd judged) = true
+is_built_turn (SetTimer timer) = true
+is_built_turn (TakeKey key rest) = true
+is_built_turn NoKey = true
+is_built_turn (Send mask) = true
+is_built_turn (Call rd callee entry) = true
+is_built_turn (Return caller pc) = true
+is_built_turn (Resume id) = true
+is_built_turn (Tell rd value) = true
 is_built_turn decision = false
 
 -- of the events only turns are built

@@ -1,6 +1,6 @@
 -- What the one public call of the program promises: of its words, its status, and what is known of
 -- the outside before it and after it.
-use Rattle.std.specs.Prelude.{◌≡◌, ◌≢◌, ◌≤◌, ℕ, ◌⊎◌, List, map, codes, Option, Some, None, Vec}
+use Rattle.std.specs.Prelude.{◌≡◌, ◌≢◌, ◌≤◌, ℕ, suc, ◌⊎◌, List, map, codes, Option, Some, None, Vec}
 use Rattle.std.specs.declared.alloc.Global.{Global}
 use Rattle.bn_types.specs.Numbers.{page_at}
 use Rattle.bn_types.specs.declared.event.Event.{Event}
@@ -12,12 +12,13 @@ use Rattle.bn_edge.specs.Files.{file_named}
 use Rattle.bn_edge.specs.Written.{Writes, WritesFront}
 use Rattle.bn_model.specs.Reporting.{Files, Report, desk_failed}
 use Rattle.bn_model.specs.Soundness.{Has}
-use Rattle.bn_model.specs.State.{State}
+use Rattle.bn_model.specs.State.{State, hart_at}
 use Rattle.bn_model.specs.Stepping.{step}
+use Rattle.bn_model.specs.SwitchingLaws.{IsStart}
 use Rattle.bn_model.specs.Touching.{Touch, touch}
 use Rattle.bn_model.specs.TouchingLaws.{IsDeclared, IsGivenUp, IsStored, IsUnowned}
 use Rattle.bn_machine.specs.Built.{report_of}
-use Rattle.bn_machine.specs.Runs.{RunMakes}
+use Rattle.bn_machine.specs.Runs.{HoldBytes, RunMakes}
 
 -- the words as lists of bytes
 abbrev pub bytes_of_words : List (Vec ℕ Global) → List (List ℕ)
@@ -96,6 +97,14 @@ pub record IsAdmitted (s : State) (event : Event) : Type 0 where
       (page : ℕ) → (page_at (step s event).pages page ≡ page_at s.pages page) ⊎
       (IsStored (touch s event) page ⊎ IsGivenUp s.rows (step s event).rows page)
 
+-- where a hart comes to run a module in the event, the module starts at one of its entries, as it
+-- was stopped, or back from the module that it called
+abbrev pub StartsModules : State → Event → Type 0
+StartsModules s event =
+    (h m : ℕ) → (hart_at s h).current.0 ≢ suc m →
+    (hart_at (step s event) h).current.0 ≡ suc m →
+    IsStart s (suc m) (hart_at s h) (hart_at (step s event) h)
+
 pub record Promise (words : List (List ℕ)) (status : Status) (old new : Outside) : Type 0 where
   -- where no count of faults rose, the flat machine's report is written, or memory ran out
   pub exact : AllWork old new → status ≢ Memory → WritesReport words status old new
@@ -112,3 +121,6 @@ pub record Promise (words : List (List ℕ)) (status : Status) (old new : Outsid
   -- who touches the guest's pages in a run, and which of them change
   pub touched : (files : Files) (s : State) (event : Event) → RunMakes words files s event →
       IsAdmitted s event
+  -- how modules start in it
+  pub started : (files : Files) (s : State) (event : Event) → HoldBytes files →
+      RunMakes words files s event → StartsModules s event

@@ -1,5 +1,6 @@
 -- Which events the run of a call makes, and in which states, by its words and the files.
-use Rattle.std.specs.Prelude.{ℕ, ◌*◌, List, [], Option, Some, None}
+use Rattle.std.specs.Prelude.{◌≡◌, ℕ, ◌*◌, ◌^◌, ◌<◌, List, [], Option, Some, None}
+use Rattle.std.specs.List.{All}
 use Rattle.bn_types.specs.declared.event.Event.{Event}
 use Rattle.bn_model.specs.Loading.{Load, Ram, Faulty, Unbuilt, load_of}
 use Rattle.bn_model.specs.Opening.{opening}
@@ -26,3 +27,10 @@ MakesOfOrder (Some order) files s event = MakesOfFile (files order.image) order 
 -- the run of these words over these files makes the event in this state
 unfoldable pub RunMakes : List (List ℕ) → Files → State → Event → Type 0
 RunMakes words files s event = MakesOfOrder (order_of words) files s event
+
+abbrev pub AreBytes : List ℕ → Type 0
+AreBytes text = All (λ (byte : ℕ). byte < 2 ^ 8) text
+
+-- each file is a text of bytes
+abbrev pub HoldBytes : Files → Type 0
+HoldBytes files = (name file : List ℕ) → files name ≡ Some file → AreBytes file

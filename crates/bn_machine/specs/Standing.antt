@@ -1,13 +1,16 @@
 -- A machine as a value: its parts, and the state of the flat machine for which they stand.
-use Rattle.std.specs.Prelude.{◌≡◌, ◌<◌, List, length}
+use Rattle.std.specs.Prelude.{◌≡◌, ℕ, ◌<◌, List, length, Some}
 use Rattle.std.specs.List.{All}
 use Rattle.bn_types.specs.declared.decl.Decl.{Decl}
 use Rattle.bn_types.specs.declared.judged.Judged.{Judged}
+use Rattle.bn_types.specs.declared.mod_id.ModId.{ModId}
 use Rattle.bn_types.specs.declared.row.Row.{Row}
+use Rattle.bn_types.specs.declared.row_state.RowState.TheVariants.{Stopped}
 use Rattle.bn_model.specs.Nesting.{IsNested}
 use Rattle.bn_model.specs.Rows.{owners}
 use Rattle.bn_model.specs.Standing.{Parts, state_of}
-use Rattle.bn_model.specs.State.{Hart, State}
+use Rattle.bn_model.specs.Soundness.{state_at}
+use Rattle.bn_model.specs.State.{Hart, State, hart_at, untrusted}
 use Rattle.bn_unit.specs.Memory.{Backing}
 
 pub record Standing : Type 0 where
@@ -29,3 +32,8 @@ pub record HasRoomFor (s : State) (judged : Judged) : Type 0 where
   pub room : length s.rows < 15
   pub ids : s.next < 65536
   pub inside : All (λ (decl : Decl). decl.gpn.0 < length s.pages) judged.decls.items
+
+-- module m is stopped, and hart h runs the untrusted world
+pub record MayResume (s : State) (h : ℕ) (id : ModId) : Type 0 where
+  pub outside : (hart_at s h).current ≡ untrusted
+  pub stopped : state_at s.rows id.0 ≡ Some Stopped

@@ -1,11 +1,12 @@
 ghost use Rattle.std.specs.Prelude.{◌≡◌, ◌<◌, [], false, length};
 ghost use Rattle.bn_model.specs.Nesting.{contents};
 ghost use Rattle.bn_model.specs.Standing.{StandsFor};
-ghost use Rattle.bn_model.specs.State.{memory};
+ghost use Rattle.bn_model.specs.State.{hart_at, memory};
 ghost use Rattle.bn_unit.specs.Memory.{memory_of};
 
 use crate::hart::Hart;
 use bn_table::Table;
+use bn_types::ModId;
 use bn_unit::Unit;
 use std::marker::Model;
 
@@ -13,7 +14,10 @@ mod calling;
 mod carrying;
 mod launching;
 mod making;
+mod offering;
 mod reaching;
+mod secure;
+mod switching;
 mod turning;
 
 /// The parts of a machine: memory, live modules, harts and the clock, and how turns are made over
@@ -105,5 +109,21 @@ impl Engine {
     {
         // For the prover: reading a field tells what the invariant says of it.
         let _unit = &self.unit;
+    }
+
+    /// The address of hart h's next instruction.
+    fn pc(&self, h: u8) -> u64
+        requires { h < length self.now.state.harts }
+        ensures { result ≡ (hart_at self.now.state h).pc }
+    {
+        self.harts[h as usize].pc()
+    }
+
+    /// The module that hart h runs, 0 for the untrusted world.
+    fn current(&self, h: u8) -> ModId
+        requires { h < length self.now.state.harts }
+        ensures { result ≡ (hart_at self.now.state h).current }
+    {
+        self.harts[h as usize].current()
     }
 }

@@ -1,110 +1,96 @@
 //! ECALL: traps from mode U, calls to the hypervisor from mode S.
-ghost use Rattle.std.specs.Prelude.{◌≡◌, ◌-◌, ◌^◌, ◌<◌, [], length, map, slice_index};
+ghost use Rattle.std.specs.Prelude.{◌≡◌, ◌-◌, ◌^◌, ◌<◌, ◌≤◌, [], length, map, take};
 ghost use Rattle.bn_model.specs.Deciding.{decision_of_ask, decision_of_ecall, is_started};
-ghost use Rattle.bn_model.specs.Hypervisor.{ask_by, call_of};
+ghost use Rattle.bn_model.specs.Hypervisor.{ask_of};
+ghost use Rattle.bn_model.specs.Soundness.{IsSound};
+ghost use Rattle.bn_model.specs.State.{hart_at, hart_in};
 ghost use Rattle.bn_machine.specs.Making.{Makes};
-ghost use Rattle.bn_machine.specs.Outside.{hart_outside};
 
 use crate::engine::Engine;
+use crate::hart::Hart;
 use crate::{LineBuf, Unbuilt};
-use bn_types::{Cause, Mode, Regs};
+use bn_sbi::ask;
+use bn_types::{Cause, Mode, SbiAsk};
 
 const USER_CALL: Cause = Cause(8);
 
-/// The error -2 of a call that there isn't.
-const NOT_SUPPORTED: u64 = u64::MAX - 1;
-
-const SET_TIMER: u64 = 0;
-
-const CONSOLE_PUTCHAR: u64 = 1;
-
-const CONSOLE_GETCHAR: u64 = 2;
-
-const SHUTDOWN: u64 = 8;
-
-const HART_STATE_MANAGEMENT: u64 = 0x48534d;
-
-const SEND_IPI: u64 = 0x735049;
-
 impl Engine {
-    /// ECALL of hart h.
-    #[tactic(auto, unfolding(bn_model::specs::Hypervisor::ask_of))]
+    /// ECALL of hart h, which runs the untrusted world.
     pub(super) fn call_environment(&mut self, h: u8, lines: &mut LineBuf) -> Result<(), Unbuilt>
+        requires sound { IsSound self.old.state }
         requires hart { h < length self.old.state.harts }
         requires clock { self.old.state.clock < 2 ^ 64 - 1 }
         requires empty { lines.old ≡ [] }
-        ensures made { let s = self.old.state in let hart = hart_outside s h in
+        ensures made { let s = self.old.state in let hart = hart_at s h in
             Makes result self.old.state self.new.state lines.new h
             (decision_of_ecall s hart hart.mode) }
     {
-        let hart = &self.harts[h as usize];
-        match hart.mode() {
+        match self.harts[h as usize].mode() {
             Mode::U => {
                 self.trap(h, USER_CALL, 0, lines);
                 Ok(())
             }
-            Mode::S => {
-                let call = call_in(hart.regs());
-                self.call_hypervisor(h, &call, lines)
-            }
+            Mode::S => self.call_hypervisor(h, lines),
         }
     }
 
-    /// The call of a number, with this in a0.
-    #[tactic(auto, unfolding(bn_model::specs::Hypervisor::call_of))]
-    fn call_hypervisor(&mut self, h: u8, call: &Call, lines: &mut LineBuf) -> Result<(), Unbuilt>
+    fn call_hypervisor(&mut self, h: u8, lines: &mut LineBuf) -> Result<(), Unbuilt>
+        requires sound { IsSound self.old.state }
         requires hart { h < length self.old.state.harts }
         requires clock { self.old.state.clock < 2 ^ 64 - 1 }
         requires empty { lines.old ≡ [] }
         ensures made { let s = self.old.state in
-            let asked = ask_by (call_of call.now.extension call.now.function)
-            (length s.harts) (map is_started s.harts) call.now.a0 call.now.a1 call.now.a2 in
+            let asked = ask_of (hart_at s h).regs (length s.harts) (map is_started s.harts) in
             Makes result self.old.state self.new.state lines.new h (decision_of_ask asked s.keys) }
     {
-        match call.extension {
-            CONSOLE_PUTCHAR => {
-                self.put(h, (call.a0 & 0xff) as u8, lines);
-                Ok(())
-            }
-            SHUTDOWN => {
-                self.shut_down(h);
-                Ok(())
-            }
-            SET_TIMER | CONSOLE_GETCHAR => Err(Unbuilt),
-            HART_STATE_MANAGEMENT | SEND_IPI if call.function == 0 => Err(Unbuilt),
-            _ => {
-                self.answer(h, NOT_SUPPORTED);
-                Ok(())
-            }
+        match self.ask(h) {
+            SbiAsk::SetTimer(timer) => self.set_timer(h, timer),
+            SbiAsk::Put(byte) => self.put(h, byte, lines),
+            // No key can wait yet.
+            SbiAsk::Get => self.find_no_key(h),
+            SbiAsk::Shutdown => self.shut_down(h),
+            SbiAsk::Start { .. } => return Err(Unbuilt),
+            SbiAsk::Ipi { harts } => self.send(h, harts),
+            SbiAsk::Refuse { a0 } => self.answer(h, a0),
         }
+        Ok(())
+    }
+
+    /// What hart h asks the hypervisor for.
+    fn ask(&self, h: u8) -> SbiAsk
+        requires sound { IsSound self.now.state }
+        requires hart { h < length self.now.state.harts }
+        ensures { let s = self.now.state in
+            result ≡ ask_of (hart_at s h).regs (length s.harts) (map is_started s.harts) }
+    {
+        let started = which_are_started(&self.harts);
+        ask(
+            self.harts[h as usize].regs(),
+            self.harts.len() as u8,
+            &started,
+        )
     }
 }
 
-/// A call to the hypervisor, as it stands in the registers (RISC-V calling conventions, "Integer
-/// Register Convention").
-#[derive(Clone, Copy, Debug)]
-struct Call {
-    /// From a7.
-    extension: u64,
-    /// From a6.
-    function: u64,
-    a0: u64,
-    a1: u64,
-    a2: u64,
+/// Which of the harts, at most four, are started.
+#[tactic(auto, using(crate::proofs::Harts::started_are))]
+fn which_are_started(harts: &[Hart]) -> [bool; 4]
+    requires { length harts.now ≤ 4 }
+    ensures { take (length harts.now) result ≡ map is_started harts.now }
+{
+    [
+        is_started_at(harts, 0),
+        is_started_at(harts, 1),
+        is_started_at(harts, 2),
+        is_started_at(harts, 3),
+    ]
 }
 
-fn call_in(regs: &Regs) -> Call
-    ensures extension { result.extension ≡ slice_index regs.now.x 17 }
-    ensures function { result.function ≡ slice_index regs.now.x 16 }
-    ensures a0 { result.a0 ≡ slice_index regs.now.x 10 }
-    ensures a1 { result.a1 ≡ slice_index regs.now.x 11 }
-    ensures a2 { result.a2 ≡ slice_index regs.now.x 12 }
+fn is_started_at(harts: &[Hart], h: usize) -> bool
+    ensures { result ≡ is_started (hart_in harts.now h) }
 {
-    Call {
-        extension: regs.x[17],
-        function: regs.x[16],
-        a0: regs.x[10],
-        a1: regs.x[11],
-        a2: regs.x[12],
+    match harts.get(h) {
+        Some(hart) => hart.is_started(),
+        None => false,
     }
 }

@@ -4,25 +4,22 @@ ghost use Rattle.bn_types.specs.Numbers.{bytes_of};
 ghost use Rattle.bn_model.specs.Accessing.{access, answer_of_load};
 ghost use Rattle.bn_model.specs.CsrFile.{csr_done};
 ghost use Rattle.bn_model.specs.Deciding.{counters_of, decision_of_csr, decision_of_fault};
-ghost use Rattle.bn_model.specs.Deciding.{decision_of_load, decision_of_secure, decision_of_store};
+ghost use Rattle.bn_model.specs.Deciding.{decision_of_load, decision_of_store};
 ghost use Rattle.bn_model.specs.Decision as turn;
-ghost use Rattle.bn_model.specs.Decision.{Decision};
-ghost use Rattle.bn_model.specs.InsnRanges.{IsActInRange, IsSecureInRange};
+ghost use Rattle.bn_model.specs.InsnRanges.{IsActInRange};
 ghost use Rattle.bn_model.specs.Interrupts.{wires_of};
 ghost use Rattle.bn_model.specs.Legality as flat_legality;
 ghost use Rattle.bn_model.specs.Soundness.{IsSound};
-ghost use Rattle.bn_model.specs.State.{asker, memory, value_of};
-ghost use Rattle.bn_machine.specs.Built.{is_built_turn};
+ghost use Rattle.bn_model.specs.State.{asker, hart_at, memory};
+ghost use Rattle.bn_machine.specs.Acts.{IsSystem, decision_outside};
 ghost use Rattle.bn_machine.specs.Costs.{CountsAct};
 ghost use Rattle.bn_machine.specs.Making.{IsMade, Makes, MakesAct};
-ghost use Rattle.bn_machine.specs.Outside.{hart_outside};
-ghost use Rattle.bn_machine.specs.Within.{JumpsAligned};
 ghost use Rattle.rv_csr.specs.Outcomes.{DoesCsr};
 
 use crate::engine::Engine;
 use crate::engine::turning::ILLEGAL_INSTRUCTION;
 use crate::{LineBuf, Unbuilt};
-use bn_types::{Act, Cause, Fault, Kind, Mode, Reg, Secure, Steps, Width};
+use bn_types::{Act, Cause, Fault, Kind, Mode, Reg, Steps, Width};
 use rv_csr::{CsrAsked, Csrs, Illegal};
 use rv_exec::extend;
 use std::sync::ledger::Ledger;
@@ -42,7 +39,6 @@ impl Engine {
         requires hart { h < length self.old.state.harts }
         requires clock { self.old.state.clock < 2 ^ 64 - 1 }
         requires range { IsActInRange act }
-        requires aligned { JumpsAligned act }
         requires empty { lines.old ≡ [] }
         ensures made { MakesAct result self.old.state self.new.state lines.new h act }
         ensures few { CountsAct act 15 steps.old steps.new }
@@ -73,6 +69,44 @@ impl Engine {
                 self.store(h, va, width, value, lines, steps);
                 Ok(())
             }
+            Act::Bastion(secure) => self.carry_out_secure(h, &secure, lines, steps),
+            Act::Trap { cause, value } => {
+                self.trap(h, cause, value, lines);
+                Ok(())
+            }
+            _ => self.carry_out_system(h, act, lines),
+        }
+    }
+
+    /// An instruction of opcode SYSTEM, which is illegal in a module.
+    #[tactic(auto, using(crate::proofs::Inside::system_inside, crate::proofs::Inside::system_outside))]
+    fn carry_out_system(&mut self, h: u8, act: Act, lines: &mut LineBuf) -> Result<(), Unbuilt>
+        requires sound { IsSound self.old.state }
+        requires hart { h < length self.old.state.harts }
+        requires clock { self.old.state.clock < 2 ^ 64 - 1 }
+        requires range { IsActInRange act }
+        requires system { IsSystem act }
+        requires empty { lines.old ≡ [] }
+        ensures made { MakesAct result self.old.state self.new.state lines.new h act }
+    {
+        if self.harts[h as usize].is_inside() {
+            self.trap(h, ILLEGAL_INSTRUCTION, 0, lines);
+            return Ok(());
+        }
+        self.carry_out_outside(h, act, lines)
+    }
+
+    fn carry_out_outside(&mut self, h: u8, act: Act, lines: &mut LineBuf) -> Result<(), Unbuilt>
+        requires sound { IsSound self.old.state }
+        requires hart { h < length self.old.state.harts }
+        requires clock { self.old.state.clock < 2 ^ 64 - 1 }
+        requires range { IsActInRange act }
+        requires system { IsSystem act }
+        requires empty { lines.old ≡ [] }
+        ensures made { let s = self.old.state in Makes result s self.new.state lines.new h
+            (decision_outside s h (hart_at s h) act) }
+    {
+        match act {
             Act::Csr {
                 op,
                 number,
@@ -89,27 +123,14 @@ impl Engine {
                     writes,
                 };
                 self.access_csr(h, &asked, rd, lines);
-                Ok(())
             }
-            Act::Ecall => self.call_environment(h, lines),
-            Act::Ebreak => {
-                self.trap(h, BREAKPOINT, 0, lines);
-                Ok(())
-            }
-            Act::Sret => {
-                self.return_or_trap(h, lines);
-                Ok(())
-            }
-            Act::Wfi | Act::SfenceVma => {
-                self.go_on_or_trap(h, lines);
-                Ok(())
-            }
-            Act::Bastion(secure) => self.carry_out_secure(h, &secure, lines, steps),
-            Act::Trap { cause, value } => {
-                self.trap(h, cause, value, lines);
-                Ok(())
-            }
+            Act::Ecall => return self.call_environment(h, lines),
+            Act::Ebreak => self.trap(h, BREAKPOINT, 0, lines),
+            Act::Sret => self.return_or_trap(h, lines),
+            Act::Wfi | Act::SfenceVma => self.go_on_or_trap(h, lines),
+            _ => unreachable!(),
         }
+        Ok(())
     }
 
     fn load<L: Ledger>(
@@ -122,12 +143,13 @@ impl Engine {
         lines: &mut LineBuf,
         steps: &mut Steps<L>,
     )
+        requires sound { IsSound self.old.state }
         requires hart { h < length self.old.state.harts }
         requires clock { self.old.state.clock < 2 ^ 64 - 1 }
         requires register { rd.0 < 32 }
         requires empty { lines.old ≡ [] }
         ensures made { let s = self.old.state in
-            let reached = access (memory s) (asker h (hart_outside s h)) Kind.Load va width in
+            let reached = access (memory s) (asker h (hart_at s h)) Kind.Load va width in
             IsMade s self.new.state lines.new h
             (decision_of_load width signed rd (answer_of_load s.pages width reached)) }
         ensures few { steps.new ≤ steps.old + 15 }
@@ -147,11 +169,12 @@ impl Engine {
         lines: &mut LineBuf,
         steps: &mut Steps<L>,
     )
+        requires sound { IsSound self.old.state }
         requires hart { h < length self.old.state.harts }
         requires clock { self.old.state.clock < 2 ^ 64 - 1 }
         requires empty { lines.old ≡ [] }
         ensures made { let s = self.old.state in
-            let reached = access (memory s) (asker h (hart_outside s h)) Kind.Store va width in
+            let reached = access (memory s) (asker h (hart_at s h)) Kind.Store va width in
             IsMade s self.new.state lines.new h (decision_of_store width value reached) }
         ensures few { steps.new ≤ steps.old + 15 }
     {
@@ -163,6 +186,7 @@ impl Engine {
 
     /// Takes the trap of an access of a kind that failed.
     pub(super) fn fail(&mut self, h: u8, kind: Kind, fault: &Fault, lines: &mut LineBuf)
+        requires sound { IsSound self.old.state }
         requires hart { h < length self.old.state.harts }
         requires clock { self.old.state.clock < 2 ^ 64 - 1 }
         requires empty { lines.old ≡ [] }
@@ -176,12 +200,13 @@ impl Engine {
     }
 
     fn access_csr(&mut self, h: u8, asked: &CsrAsked, rd: Reg, lines: &mut LineBuf)
+        requires sound { IsSound self.old.state }
         requires hart { h < length self.old.state.harts }
         requires clock { self.old.state.clock < 2 ^ 64 - 1 }
         requires register { rd.0 < 32 }
         requires empty { lines.old ≡ [] }
         ensures made { let s = self.old.state in IsMade s self.new.state lines.new h
-            (decision_of_csr s h (hart_outside s h) asked.now.op asked.now.number asked.now.operand
+            (decision_of_csr s h (hart_at s h) asked.now.op asked.now.number asked.now.operand
             asked.now.reads asked.now.writes rd) }
     {
         let mut csrs = *self.harts[h as usize].csrs();
@@ -194,7 +219,7 @@ impl Engine {
     /// A CSR instruction of hart h on a copy of its CSRs.
     fn operate(&self, h: u8, csrs: &mut Csrs, asked: &CsrAsked) -> Result<u64, Illegal>
         requires { h < length self.now.state.harts }
-        ensures { let s = self.now.state in let hart = hart_outside s h in DoesCsr result csrs.old
+        ensures { let s = self.now.state in let hart = hart_at s h in DoesCsr result csrs.old
             csrs.new
             (csr_done csrs.old asked.now.op asked.now.number asked.now.operand asked.now.reads
             asked.now.writes
@@ -212,11 +237,12 @@ impl Engine {
 
     /// SRET, which mode U may not execute.
     fn return_or_trap(&mut self, h: u8, lines: &mut LineBuf)
+        requires sound { IsSound self.old.state }
         requires hart { h < length self.old.state.harts }
         requires clock { self.old.state.clock < 2 ^ 64 - 1 }
         requires empty { lines.old ≡ [] }
         ensures made { let s = self.old.state in IsMade s self.new.state lines.new h
-            (flat_legality.supervisor_only (hart_outside s h).mode turn.ReturnFromTrap) }
+            (flat_legality.supervisor_only (hart_at s h).mode turn.ReturnFromTrap) }
     {
         match self.harts[h as usize].mode() {
             Mode::S => self.return_from_trap(h),
@@ -226,75 +252,16 @@ impl Engine {
 
     /// WFI and SFENCE.VMA, which mode U may not execute.
     fn go_on_or_trap(&mut self, h: u8, lines: &mut LineBuf)
+        requires sound { IsSound self.old.state }
         requires hart { h < length self.old.state.harts }
         requires clock { self.old.state.clock < 2 ^ 64 - 1 }
         requires empty { lines.old ≡ [] }
         ensures made { let s = self.old.state in IsMade s self.new.state lines.new h
-            (flat_legality.supervisor_only (hart_outside s h).mode turn.Next) }
+            (flat_legality.supervisor_only (hart_at s h).mode turn.Next) }
     {
         match self.harts[h as usize].mode() {
             Mode::S => self.go_on(h),
             Mode::U => self.trap(h, ILLEGAL_INSTRUCTION, 0, lines),
-        }
-    }
-
-    /// A secure instruction. Of those that are legal launches alone are built yet.
-    #[tactic(auto, using(crate::proofs::LeftTurns::call_unbuilt, crate::proofs::LeftTurns::evict_unbuilt))]
-    fn carry_out_secure<L: Ledger>(
-        &mut self,
-        h: u8,
-        secure: &Secure,
-        lines: &mut LineBuf,
-        steps: &mut Steps<L>,
-    ) -> Result<(), Unbuilt>
-        requires sound { IsSound self.old.state }
-        requires hart { h < length self.old.state.harts }
-        requires clock { self.old.state.clock < 2 ^ 64 - 1 }
-        requires range { IsSecureInRange secure.now }
-        requires empty { lines.old ≡ [] }
-        ensures made { let s = self.old.state in Makes result self.old.state self.new.state
-            lines.new h
-            (decision_of_secure s (hart_outside s h) secure.now) }
-    {
-        match secure {
-            Secure::Launch { rd, at } => {
-                let at = self.register(h, *at);
-                self.launch_or_trap(h, *rd, at, lines, steps);
-                Ok(())
-            }
-            Secure::Evict { .. } => self.refuse_user(h, lines),
-            Secure::Call { .. } | Secure::Ident { .. } => Err(Unbuilt),
-            _ => {
-                self.trap(h, ILLEGAL_INSTRUCTION, 0, lines);
-                Ok(())
-            }
-        }
-    }
-
-    /// What hart h's register holds.
-    fn register(&self, h: u8, register: Reg) -> u64
-        requires hart { h < length self.now.state.harts }
-        requires register { register.0 < 32 }
-        ensures { result ≡ value_of (hart_outside self.now.state h) register }
-    {
-        self.harts[h as usize].regs().x[register.0 as usize]
-    }
-
-    /// What mode S alone may ask for isn't built yet.
-    fn refuse_user(&mut self, h: u8, lines: &mut LineBuf) -> Result<(), Unbuilt>
-        requires hart { h < length self.old.state.harts }
-        requires clock { self.old.state.clock < 2 ^ 64 - 1 }
-        requires empty { lines.old ≡ [] }
-        ensures made { (d : Decision) → is_built_turn d ≡ false →
-            Makes result self.old.state self.new.state lines.new h
-            (flat_legality.supervisor_only (hart_outside self.old.state h).mode d) }
-    {
-        match self.harts[h as usize].mode() {
-            Mode::S => Err(Unbuilt),
-            Mode::U => {
-                self.trap(h, ILLEGAL_INSTRUCTION, 0, lines);
-                Ok(())
-            }
         }
     }
 }

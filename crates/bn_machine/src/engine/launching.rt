@@ -6,9 +6,8 @@ ghost use Rattle.bn_model.specs.Legality as flat_legality;
 ghost use Rattle.bn_model.specs.Memory.{visible};
 ghost use Rattle.bn_model.specs.Rows.{enclaves};
 ghost use Rattle.bn_model.specs.Soundness.{IsSound};
-ghost use Rattle.bn_model.specs.State.{memory};
+ghost use Rattle.bn_model.specs.State.{hart_at, memory};
 ghost use Rattle.bn_machine.specs.Making.{IsMade};
-ghost use Rattle.bn_machine.specs.Outside.{hart_outside};
 ghost use Rattle.bn_machine.specs.Standing.{HasRoomFor};
 
 use crate::LineBuf;
@@ -33,7 +32,7 @@ impl Engine {
         requires clock { self.old.state.clock < 2 ^ 64 - 1 }
         requires register { rd.0 < 32 }
         requires empty { lines.old ≡ [] }
-        ensures made { let s = self.old.state in let hart = hart_outside s h in
+        ensures made { let s = self.old.state in let hart = hart_at s h in
             IsMade s self.new.state lines.new h
             (flat_legality.supervisor_only hart.mode
             (decision_of_launch rd
@@ -63,7 +62,7 @@ impl Engine {
             IsMade s self.new.state lines.new h
             (decision_of_launch rd
             (judgement (enclaves s.rows) s.next (visible (memory s))
-            (hart_outside s h).csrs.satp at)) }
+            (hart_at s h).csrs.satp at)) }
     {
         match self.judge(h, at, steps) {
             Ok(judged) => self.launch_module(h, rd, judged, lines),
@@ -83,7 +82,7 @@ impl Engine {
         requires hart { h < length self.now.state.harts }
         ensures judgement { let s = self.now.state in result
             ≡ judgement (enclaves s.rows) s.next (visible (memory s))
-            (hart_outside s h).csrs.satp at }
+            (hart_at s h).csrs.satp at }
         ensures room { IfOk result (λ judged. HasRoomFor self.now.state judged) }
     {
         // For the prover: what holds of every unit.

@@ -1,14 +1,21 @@
 //! What turns come to, made: each of these ends an event.
-ghost use Rattle.std.specs.Prelude.{◌≡◌, ◌-◌, ◌^◌, ◌<◌, ◌%◌, ℕ, [], length};
+ghost use Rattle.std.specs.Prelude.{◌≡◌, ◌≢◌, ◌-◌, ◌^◌, ◌<◌, ◌≤◌, ◌%◌, ◌++◌, ℕ, [], length};
+ghost use Rattle.bn_types.specs.declared.line.Line.TheVariants as line;
 ghost use Rattle.bn_model.specs.Decision as turn;
 ghost use Rattle.bn_model.specs.Refusals.{minus, minus_in_64_bits};
-ghost use Rattle.bn_model.specs.Stepping.{after_launch};
+ghost use Rattle.bn_model.specs.Each.{each};
+ghost use Rattle.bn_model.specs.Soundness.{IsSound};
+ghost use Rattle.bn_model.specs.State.{hart_after_trap, hart_at, with_hart};
+ghost use Rattle.bn_model.specs.Spelling.{spelling};
+ghost use Rattle.bn_model.specs.Stepping.{after_launch, after_tick, hart_by_mask};
 ghost use Rattle.bn_model.specs.Walking as walking;
 ghost use Rattle.bn_machine.specs.Making.{IsRefusalCode, state_after, text_after};
+ghost use Rattle.bn_machine.specs.Harts.{raised};
 ghost use Rattle.bn_machine.specs.Standing.{HasRoomFor};
 
 use crate::LineBuf;
 use crate::engine::Engine;
+use crate::hart::{A0, Hart};
 use bn_types::{Cause, Judged, Kind, Line, ModId, Reg, Request, Vpn};
 use rv_csr::Csrs;
 
@@ -21,45 +28,106 @@ impl Engine {
     }
 
     pub(super) fn trap(&mut self, hart: u8, cause: Cause, value: u64, lines: &mut LineBuf)
+        requires sound { IsSound self.old.state }
         requires hart { hart < length self.old.state.harts }
         requires clock { self.old.state.clock < 2 ^ 64 - 1 }
         requires empty { lines.old ≡ [] }
         ensures stepped { self.new.state ≡ state_after self.old.state hart (turn.Trap cause value) }
         ensures told { lines.new ≡ text_after self.old.state hart (turn.Trap cause value) }
     {
-        lines.push(&Line::Trap {
-            n: self.clock,
-            h: hart,
-            c: cause.0,
-            p: self.harts[hart as usize].pc(),
-        });
-        self.harts[hart as usize].trap(cause, value);
-        self.clock += 1;
+        self.take_trap(hart, cause, value, lines);
     }
 
     /// Takes the trap of an access of a kind that the rule of admission denies.
     pub(super) fn deny(&mut self, hart: u8, kind: Kind, va: u64, lines: &mut LineBuf)
+        requires sound { IsSound self.old.state }
         requires hart { hart < length self.old.state.harts }
         requires clock { self.old.state.clock < 2 ^ 64 - 1 }
         requires empty { lines.old ≡ [] }
         ensures stepped { self.new.state ≡ state_after self.old.state hart (turn.Deny kind va) }
         ensures told { lines.new ≡ text_after self.old.state hart (turn.Deny kind va) }
     {
-        let (cause, pc) = (access_fault(kind), self.harts[hart as usize].pc());
         lines.push(&Line::Deny {
             n: self.clock,
             h: hart,
-            m: ModId(0),
+            m: self.current(hart),
             w: kind,
             v: Vpn(va / 4096),
         });
+        self.take_trap(hart, access_fault(kind), va, lines);
+    }
+
+    /// Takes a trap; where a module runs, it is stopped first.
+    fn take_trap(&mut self, hart: u8, cause: Cause, value: u64, lines: &mut LineBuf)
+        requires sound { IsSound self.old.state }
+        requires hart { hart < length self.old.state.harts }
+        requires clock { self.old.state.clock < 2 ^ 64 - 1 }
+        requires room { length lines.old ≤ 128 }
+        ensures stepped { self.new.state ≡ state_after self.old.state hart (turn.Trap cause value) }
+        ensures told { lines.new
+            ≡ lines.old ++ text_after self.old.state hart (turn.Trap cause value) }
+    {
+        if self.harts[hart as usize].is_inside() {
+            self.stop_and_trap(hart, cause, value, lines);
+        } else {
+            self.trap_outside(hart, cause, value, lines);
+        }
+    }
+
+    /// The kernel isn't told where in its page a module's access failed.
+    fn stop_and_trap(&mut self, hart: u8, cause: Cause, value: u64, lines: &mut LineBuf)
+        requires sound { IsSound self.old.state }
+        requires hart { hart < length self.old.state.harts }
+        requires inside { (hart_at self.old.state hart).current.0 ≢ 0 }
+        requires clock { self.old.state.clock < 2 ^ 64 - 1 }
+        requires room { length lines.old ≤ 128 }
+        ensures stepped { self.new.state ≡ state_after self.old.state hart (turn.Trap cause value) }
+        ensures told { lines.new
+            ≡ lines.old ++ text_after self.old.state hart (turn.Trap cause value) }
+    {
+        let pc = self.pc(hart);
+        lines.push(&Line::Stop {
+            n: self.clock,
+            h: hart,
+            m: self.current(hart),
+            p: pc,
+        });
+        self.stop(hart);
+        self.enter_trap(hart, pc, cause, value - value % 4096, lines);
+    }
+
+    fn trap_outside(&mut self, hart: u8, cause: Cause, value: u64, lines: &mut LineBuf)
+        requires sound { IsSound self.old.state }
+        requires hart { hart < length self.old.state.harts }
+        requires outside { (hart_at self.old.state hart).current.0 ≡ 0 }
+        requires clock { self.old.state.clock < 2 ^ 64 - 1 }
+        requires room { length lines.old ≤ 128 }
+        ensures stepped { self.new.state ≡ state_after self.old.state hart (turn.Trap cause value) }
+        ensures told { lines.new
+            ≡ lines.old ++ text_after self.old.state hart (turn.Trap cause value) }
+    {
+        let pc = self.pc(hart);
+        self.enter_trap(hart, pc, cause, value, lines);
+    }
+
+    /// The hart goes on at the trap's handler; the trap was taken at the pc.
+    fn enter_trap(&mut self, hart: u8, pc: u64, cause: Cause, value: u64, lines: &mut LineBuf)
+        requires hart { hart < length self.old.state.harts }
+        requires aligned { (hart_at self.old.state hart).pc % 4 ≡ 0 }
+        requires clock { self.old.state.clock < 2 ^ 64 - 1 }
+        requires room { length lines.old ≤ 256 }
+        ensures stepped { let s = self.old.state in self.new.state
+            ≡ after_tick (with_hart s hart (hart_after_trap (hart_at s hart) cause value)) }
+        ensures told { lines.new
+            ≡ lines.old ++ spelling (line.Trap self.old.state.clock hart cause.0 pc) }
+    {
+        self.harts[hart as usize].trap(cause, value);
         lines.push(&Line::Trap {
             n: self.clock,
             h: hart,
             c: cause.0,
             p: pc,
         });
-        self.harts[hart as usize].trap(cause, va);
         self.clock += 1;
     }
 
@@ -86,7 +154,6 @@ impl Engine {
         requires hart { hart < length self.old.state.harts }
         requires clock { self.old.state.clock < 2 ^ 64 - 1 }
         requires register { rd.0 < 32 }
-        requires aligned { target % 4 ≡ 0 }
         ensures { self.new.state ≡ state_after self.old.state hart (turn.Jump target rd link) }
     {
         self.harts[hart as usize].jump(target, rd, link);
@@ -133,13 +200,7 @@ impl Engine {
     }
 
     /// Launches a judged module, and sets rd to its id.
-    pub(super) fn launch_module(
-        &mut self,
-        hart: u8,
-        rd: Reg,
-        judged: Judged,
-        lines: &mut LineBuf,
-    )
+    pub(super) fn launch_module(&mut self, hart: u8, rd: Reg, judged: Judged, lines: &mut LineBuf)
         requires hart { hart < length self.old.state.harts }
         requires clock { self.old.state.clock < 2 ^ 64 - 1 }
         requires register { rd.0 < 32 }
@@ -212,6 +273,38 @@ impl Engine {
         self.clock += 1;
     }
 
+    pub(super) fn set_timer(&mut self, hart: u8, timer: u64)
+        requires hart { hart < length self.old.state.harts }
+        requires clock { self.old.state.clock < 2 ^ 64 - 1 }
+        ensures { self.new.state ≡ state_after self.old.state hart (turn.SetTimer timer) }
+    {
+        self.harts[hart as usize].set_timer(timer);
+        self.clock += 1;
+    }
+
+    /// No key waits: a0 is minus 1.
+    pub(super) fn find_no_key(&mut self, hart: u8)
+        requires hart { hart < length self.old.state.harts }
+        requires clock { self.old.state.clock < 2 ^ 64 - 1 }
+        ensures none { self.old.state.keys ≡ [] }
+        ensures stepped { self.new.state ≡ state_after self.old.state hart turn.NoKey }
+    {
+        self.harts[hart as usize].go_on_with(A0, u64::MAX);
+        self.clock += 1;
+    }
+
+    /// A software interrupt comes to each hart of the mask.
+    pub(super) fn send(&mut self, hart: u8, mask: u8)
+        requires sound { IsSound self.old.state }
+        requires hart { hart < length self.old.state.harts }
+        requires clock { self.old.state.clock < 2 ^ 64 - 1 }
+        ensures { self.new.state ≡ state_after self.old.state hart (turn.Send mask) }
+    {
+        self.harts[hart as usize].answer(0);
+        raise_all(&mut self.harts, mask);
+        self.clock += 1;
+    }
+
     pub(super) fn shut_down(&mut self, hart: u8)
         requires hart { hart < length self.old.state.harts }
         requires clock { self.old.state.clock < 2 ^ 64 - 1 }
@@ -240,4 +333,27 @@ fn in_64_bits(code: i64) -> u64
     ensures { (number : ℕ) → code ≡ minus number → result ≡ minus_in_64_bits number }
 {
     code.unsigned_abs().wrapping_neg()
+}
+
+/// A software interrupt comes to each of the harts, at most four, that the mask names.
+#[tactic(auto, using(crate::proofs::Harts::raised_are))]
+fn raise_all(harts: &mut Vec<Hart>, mask: u8)
+    requires { length harts.old.items ≤ 4 }
+    ensures raised { harts.new.items ≡ each (hart_by_mask mask) 0 harts.old.items }
+    ensures count { length harts.new.items ≡ length harts.old.items }
+{
+    raise(harts, 0, mask);
+    raise(harts, 1, mask);
+    raise(harts, 2, mask);
+    raise(harts, 3, mask);
+}
+
+/// It comes to a hart, where there is one of the number and the mask names it.
+fn raise(harts: &mut Vec<Hart>, h: u8, mask: u8)
+    requires { h < 8 }
+    ensures { harts.new.items ≡ raised mask h harts.old.items }
+{
+    if (h as usize) < harts.len() && (mask >> h) % 2 == 1 {
+        harts[h as usize].raise_software();
+    }
 }

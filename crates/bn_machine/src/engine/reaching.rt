@@ -1,9 +1,9 @@
 //! Accesses of a hart to memory.
-ghost use Rattle.std.specs.Prelude.{◌≡◌, ◌+◌, ◌*◌, ◌^◌, ◌<◌, ◌≤◌, IfOk, length};
+ghost use Rattle.std.specs.Prelude.{◌≡◌, ◌+◌, ◌*◌, ◌^◌, ◌<◌, ◌≤◌, IfOk, OnErr, length};
 ghost use Rattle.bn_types.specs.Numbers.{bytes_of};
 ghost use Rattle.bn_model.specs.Accessing.{access, answer_of_load, pages_after_store};
-ghost use Rattle.bn_model.specs.State.{asker, memory};
-ghost use Rattle.bn_machine.specs.Outside.{hart_outside};
+ghost use Rattle.bn_model.specs.Soundness.{IsSound};
+ghost use Rattle.bn_model.specs.State.{asker, hart_at, memory};
 ghost use Rattle.bn_unit.specs.Memory.{Completes};
 
 use crate::engine::Engine;
@@ -13,8 +13,9 @@ use std::sync::ledger::Ledger;
 impl Engine {
     /// The word at hart h's pc.
     pub(super) fn fetch<L: Ledger>(&mut self, h: u8, steps: &mut Steps<L>) -> Result<u32, Fault>
-        requires { h < length self.old.state.harts }
-        ensures word { let s = self.old.state in let hart = hart_outside s h in result
+        requires sound { IsSound self.old.state }
+        requires hart { h < length self.old.state.harts }
+        ensures word { let s = self.old.state in let hart = hart_at s h in result
             ≡ answer_of_load s.pages Width.B4
             (access (memory s) (asker h hart) Kind.Fetch hart.pc Width.B4) }
         ensures kept { self.new.state ≡ self.old.state }
@@ -36,7 +37,7 @@ impl Engine {
         requires { h < length self.old.state.harts }
         ensures number { let s = self.old.state in result
             ≡ answer_of_load s.pages width
-            (access (memory s) (asker h (hart_outside s h)) Kind.Load va width) }
+            (access (memory s) (asker h (hart_at s h)) Kind.Load va width) }
         ensures fits { IfOk result (λ number. number < 2 ^ (8 * bytes_of width)) }
         ensures kept { self.new.state ≡ self.old.state }
         ensures few { steps.new ≤ steps.old + 15 }
@@ -56,10 +57,11 @@ impl Engine {
     ) -> Result<(), Fault>
         requires { h < length self.old.state.harts }
         ensures answer { let s = self.old.state in
-            Completes result (access (memory s) (asker h (hart_outside s h)) Kind.Store va width) }
+            Completes result (access (memory s) (asker h (hart_at s h)) Kind.Store va width) }
         ensures stored { let s = self.old.state in
-            let reached = access (memory s) (asker h (hart_outside s h)) Kind.Store va width in
+            let reached = access (memory s) (asker h (hart_at s h)) Kind.Store va width in
             self.new.state ≡ record s { pages = pages_after_store s.pages width value reached } }
+        ensures kept { OnErr result (self.new.state ≡ self.old.state) }
         ensures few { steps.new ≤ steps.old + 15 }
     {
         let who = self.harts[h as usize].asker(h);

@@ -1,21 +1,23 @@
 //! Turns.
-ghost use Rattle.std.specs.Prelude.{◌≡◌, ◌-◌, ◌^◌, ◌<◌, [], None, Some, true, length};
+ghost use Rattle.std.specs.Prelude.{◌≡◌, ◌-◌, ◌^◌, ◌<◌, [], None, Some, true, IfSome, length};
 ghost use Rattle.bn_model.specs.Acting.{act_of};
-ghost use Rattle.bn_model.specs.Deciding.{asked_if_started, asked_of, asked_of_denial};
-ghost use Rattle.bn_model.specs.Deciding.{asked_of_insn, asked_of_interrupt};
+ghost use Rattle.bn_model.specs.Deciding.{asked_if_started, asked_of, asked_of_fault};
+ghost use Rattle.bn_model.specs.Deciding.{asked_of_insn, asked_of_interrupt, asked_of_stopped};
+ghost use Rattle.bn_model.specs.Deciding.{decision_of_asked};
 ghost use Rattle.bn_model.specs.Decoding.{insn_of};
 ghost use Rattle.bn_model.specs.InsnRanges.{IsActInRange, IsInRange};
 ghost use Rattle.bn_model.specs.Interrupts.{interrupt_of, wires_of};
 ghost use Rattle.bn_model.specs.Soundness.{IsSound};
-ghost use Rattle.bn_model.specs.State.{hart_at};
+ghost use Rattle.bn_model.specs.State.{hart_at, untrusted};
+ghost use Rattle.bn_model.specs.Switching.{stopped_at};
+ghost use Rattle.bn_model.specs.Walking.{vpn_of};
 ghost use Rattle.bn_machine.specs.Costs.{CountsAsked, CountsTurn};
-ghost use Rattle.bn_machine.specs.Making.{MakesAsked, MakesTurn, Resumes};
-ghost use Rattle.bn_machine.specs.Outside.{hart_outside};
-ghost use Rattle.bn_machine.specs.Within.{JumpsAligned};
+ghost use Rattle.bn_machine.specs.Making.{IsMade, MakesAsked, MakesTurn};
+ghost use Rattle.bn_machine.specs.Standing.{MayResume};
 
 use crate::engine::Engine;
 use crate::{LineBuf, Unbuilt};
-use bn_types::{Act, Cause, Fault, Insn, Kind, Steps, Vpn};
+use bn_types::{Act, Cause, Fault, Gpn, Insn, Kind, ModId, Steps, Vpn};
 use rv_csr::Wires;
 use rv_exec::act;
 use rv_insn::decode;
@@ -42,18 +44,7 @@ impl Engine {
         ensures few { let s = self.old.state in
             CountsTurn s h (hart_at s h) 30 steps.old steps.new }
     {
-        // For the prover: a hart of the untrusted world is what it shows outside.
-        self.stay_outside(h);
         self.make_turn(h, lines, steps)
-    }
-
-    /// Hart h runs the untrusted world.
-    fn stay_outside(&self, h: u8)
-        requires { h < length self.now.state.harts }
-        ensures { hart_outside self.now.state h ≡ hart_at self.now.state h }
-    {
-        // For the prover: the same of the hart by itself.
-        self.harts[h as usize].stay_outside();
     }
 
     fn make_turn<L: Ledger>(
@@ -68,9 +59,9 @@ impl Engine {
         requires empty { lines.old ≡ [] }
         ensures made { let s = self.old.state in
             MakesAsked result self.old.state self.new.state lines.new h
-            (asked_of s h (hart_outside s h)) }
+            (asked_of s h (hart_at s h)) }
         ensures few { let s = self.old.state in
-            CountsAsked (asked_of s h (hart_outside s h)) 30 steps.old steps.new }
+            CountsAsked (asked_of s h (hart_at s h)) 30 steps.old steps.new }
     {
         if self.harts[h as usize].is_started() {
             self.interrupt_or_go_on(h, lines, steps)
@@ -92,9 +83,9 @@ impl Engine {
         requires empty { lines.old ≡ [] }
         ensures made { let s = self.old.state in
             MakesAsked result self.old.state self.new.state lines.new h
-            (asked_if_started true s h (hart_outside s h)) }
+            (asked_if_started true s h (hart_at s h)) }
         ensures few { let s = self.old.state in
-            CountsAsked (asked_if_started true s h (hart_outside s h)) 30 steps.old steps.new }
+            CountsAsked (asked_if_started true s h (hart_at s h)) 30 steps.old steps.new }
     {
         match self.interrupt(h) {
             Some(cause) => {
@@ -108,7 +99,7 @@ impl Engine {
     /// The interrupt that hart h takes before its next instruction.
     fn interrupt(&self, h: u8) -> Option<Cause>
         requires { h < length self.now.state.harts }
-        ensures { result ≡ interrupt_of self.now.state h (hart_outside self.now.state h) }
+        ensures { result ≡ interrupt_of self.now.state h (hart_at self.now.state h) }
     {
         let hart = &self.harts[h as usize];
         hart.csrs().pending(hart.mode(), &self.wires(h))
@@ -117,7 +108,7 @@ impl Engine {
     /// The interrupts that come to hart h from outside. No key can come yet.
     pub(super) fn wires(&self, h: u8) -> Wires
         requires { h < length self.now.state.harts }
-        ensures { result ≡ wires_of self.now.state h (hart_outside self.now.state h) }
+        ensures { result ≡ wires_of self.now.state h (hart_at self.now.state h) }
     {
         Wires {
             timer: self.harts[h as usize].timer() <= self.clock,
@@ -137,49 +128,69 @@ impl Engine {
         requires empty { lines.old ≡ [] }
         ensures made { let s = self.old.state in
             MakesAsked result self.old.state self.new.state lines.new h
-            (asked_of_interrupt s h (hart_outside s h) None) }
+            (asked_of_interrupt s h (hart_at s h) None) }
         ensures few { let s = self.old.state in
-            CountsAsked (asked_of_interrupt s h (hart_outside s h) None) 30 steps.old steps.new }
+            CountsAsked (asked_of_interrupt s h (hart_at s h) None) 30 steps.old steps.new }
     {
         match self.fetch(h, steps) {
             Ok(word) => self.execute(h, word, lines, steps),
-            Err(fault) => self.fail_fetch(h, &fault, lines),
+            Err(fault) => {
+                self.fail_fetch(h, &fault, lines);
+                Ok(())
+            }
         }
     }
 
-    /// Takes the trap of a fetch that failed, but where a stopped module goes on, which isn't built
-    /// yet.
-    #[tactic(auto, using(crate::proofs::LeftTurns::resumption_unbuilt))]
-    fn fail_fetch(&mut self, h: u8, fault: &Fault, lines: &mut LineBuf) -> Result<(), Unbuilt>
+    /// Takes the trap of a fetch that failed, but where a stopped module goes on.
+    fn fail_fetch(&mut self, h: u8, fault: &Fault, lines: &mut LineBuf)
+        requires sound { IsSound self.old.state }
         requires hart { h < length self.old.state.harts }
         requires clock { self.old.state.clock < 2 ^ 64 - 1 }
         requires empty { lines.old ≡ [] }
-        ensures made { let s = self.old.state in
-            MakesAsked result self.old.state self.new.state lines.new h
-            (asked_of_denial s.rows (hart_outside s h) fault.now fault.now.denied) }
+        ensures made { let s = self.old.state in let hart = hart_at s h in
+            IsMade self.old.state self.new.state lines.new h
+            (decision_of_asked s h hart (asked_of_fault hart.current.0 s.rows hart fault.now)) }
     {
-        if self.resumes(h, fault) {
-            return Err(Unbuilt);
+        match self.stopped_module(h, fault) {
+            Some(id) => self.resume(h, id, lines),
+            None => self.fail(h, Kind::Fetch, fault, lines),
         }
-        self.fail(h, Kind::Fetch, fault, lines);
-        Ok(())
     }
 
-    /// Whether a stopped module goes on where hart h's fetch was denied.
-    fn resumes(&self, h: u8, fault: &Fault) -> bool
+    /// The stopped module that goes on where hart h's fetch was denied.
+    fn stopped_module(&self, h: u8, fault: &Fault) -> Option<ModId>
         requires { h < length self.now.state.harts }
-        ensures { let s = self.now.state in Resumes result fault.now
-            (asked_of_denial s.rows (hart_outside s h) fault.now fault.now.denied) }
+        ensures asked { let s = self.now.state in let hart = hart_at s h in
+            asked_of_stopped fault.now result
+            ≡ asked_of_fault hart.current.0 s.rows hart fault.now }
+        ensures stopped { IfSome result (MayResume self.now.state h) }
     {
         let hart = &self.harts[h as usize];
-        let pc = hart.pc();
-        match fault.denied {
-            Some(page) => self
-                .table
-                .stopped_at(page, Vpn(pc / 4096), pc, hart.mode())
-                .is_some(),
-            None => false,
+        if hart.is_inside() {
+            return None;
         }
+        // For the prover: what holds of every table.
+        self.table.facts();
+        match fault.denied {
+            Some(page) => self.stopped_at(h, page),
+            None => None,
+        }
+    }
+
+    /// The module that was stopped where hart h stands, on this page.
+    #[tactic(auto, using(crate::proofs::Switches::stopped_found))]
+    fn stopped_at(&self, h: u8, page: Gpn) -> Option<ModId>
+        requires hart { h < length self.now.state.harts }
+        requires outside { (hart_at self.now.state h).current ≡ untrusted }
+        ensures found { let s = self.now.state in let hart = hart_at s h in result
+            ≡ stopped_at s.rows page.0 (vpn_of hart.pc) hart.pc hart.mode }
+        ensures stopped { IfSome result (MayResume self.now.state h) }
+    {
+        // For the prover: what holds of every table.
+        self.table.facts();
+        let hart = &self.harts[h as usize];
+        let pc = hart.pc();
+        self.table.stopped_at(page, Vpn(pc / 4096), pc, hart.mode())
     }
 
     fn execute<L: Ledger>(
@@ -193,10 +204,10 @@ impl Engine {
         requires hart { h < length self.old.state.harts }
         requires clock { self.old.state.clock < 2 ^ 64 - 1 }
         requires empty { lines.old ≡ [] }
-        ensures made { let hart = hart_outside self.old.state h in
+        ensures made { let hart = hart_at self.old.state h in
             MakesAsked result self.old.state self.new.state lines.new h
             (asked_of_insn hart (insn_of word)) }
-        ensures few { let hart = hart_outside self.old.state h in
+        ensures few { let hart = hart_at self.old.state h in
             CountsAsked (asked_of_insn hart (insn_of word)) 15 steps.old steps.new }
     {
         match decode(word) {
@@ -220,10 +231,10 @@ impl Engine {
         requires clock { self.old.state.clock < 2 ^ 64 - 1 }
         requires range { IsInRange insn.now }
         requires empty { lines.old ≡ [] }
-        ensures made { let hart = hart_outside self.old.state h in
+        ensures made { let hart = hart_at self.old.state h in
             MakesAsked result self.old.state self.new.state lines.new h
             (asked_of_insn hart (Some insn.now)) }
-        ensures few { let hart = hart_outside self.old.state h in
+        ensures few { let hart = hart_at self.old.state h in
             CountsAsked (asked_of_insn hart (Some insn.now)) 15 steps.old steps.new }
     {
         let asked = self.asked(h, insn);
@@ -234,10 +245,9 @@ impl Engine {
     fn asked(&self, h: u8, insn: &Insn) -> Act
         requires hart { h < length self.now.state.harts }
         requires range { IsInRange insn.now }
-        ensures exact { let hart = hart_outside self.now.state h in result ≡ act_of insn.now
+        ensures exact { let hart = hart_at self.now.state h in result ≡ act_of insn.now
             hart.regs hart.pc }
         ensures range { IsActInRange result }
-        ensures aligned { JumpsAligned result }
     {
         let hart = &self.harts[h as usize];
         act(insn, hart.regs(), hart.pc())

@@ -10,7 +10,7 @@ returns-in-Ok-clause-made g c =
 
 pub returns-in-Err-clause-made : goal.returns-in-Err-clause-made
 returns-in-Err-clause-made g c =
-    made-unfetched _ _ _ _ _ _ c.in-Err.fault c.fetch.ensures.kept
+    made-unfetched c.args.self.now.state _ _ _ _ c.in-Err.fault c.fetch.ensures.kept
     (sym c.fetch.ensures.word ∙ c.in-Err.is) c.fail_fetch.ensures.made
 
 pub returns-in-Ok-clause-few : goal.returns-in-Ok-clause-few

@@ -1,0 +1,18 @@
+-- The identity of a module, by its row.
+use Rattle.std.proofs.Common.{◌≡◌, ℕ, Bool, true, false, List, [], ◌∷◌, cond, find, map, Option, Some}
+use Rattle.std.proofs.Common.{None, refl, ap, ◌∙◌, option_map}
+use Rattle.bn_types.specs.declared.row.Row.{Row}
+use Rattle.bn_model.specs.Deciding.{enclave_at, identity_word, is_enclave}
+use Rattle.bn_model.specs.Rows.{Enclave, enclave_of, enclaves, has_id, row_of}
+use Rattle.bn_model.proofs.TestLemmas.{find-map}
+
+enclave-row : (rows : List Row) (id : ℕ)
+    → enclave_at (enclaves rows) id ≡ option_map enclave_of (row_of rows id)
+unfolding enclaves
+enclave-row rows id = find-map (is_enclave id) (has_id id) enclave_of (λ row. refl) rows
+
+pub word_of_row : (rows : List Row) (id word : ℕ)
+    → identity_word (enclave_at (enclaves rows) id) word
+    ≡ identity_word (option_map enclave_of (row_of rows id)) word
+word_of_row rows id word =
+    ap (λ (enclave : Option Enclave). identity_word enclave word) (enclave-row rows id)

@@ -1,0 +1,2 @@
+pub mod HandoverLemmas
+pub mod IdBounds
