@@ -12,6 +12,8 @@
 #: trap N 0 0000000000000003 0000000080010010
 #: deny N 0 0 fetch 0000000080010
 #: trap N 0 0000000000000001 0000000080010008
+#: deny N 0 0 fetch 0000000080010
+#: trap N 0 0000000000000001 0000000080010008
 #: resume N 0 1 0000000080010008
 #: stop N 0 1 0000000080010008
 #: trap N 0 0000000000000002 0000000080010008
@@ -48,6 +50,12 @@ at_other:
     go_to 0x10008, at_page
 at_page:
     expect x10, 20
+    # another page of the module at its address
+    lla x7, leaves
+    ld x6, 8 * 21(x7)
+    sd x6, 8 * 16(x7)
+    go_to 0x10008, at_data
+at_data:
     # its page again, but with mode U; the leaf is of that mode
     lla x7, leaves
     ld x6, 8 * 15(x7)
@@ -88,6 +96,7 @@ leaves:
     leaf 16, RWX
     .org 0x3000 + 8 * 20
     leaf 20, RWX
+    leaf 17, RWX
     .org 0x3000 + 8 * 48
     leaf 16, RWX
     .include "module_text.inc"
