@@ -14,5 +14,6 @@ apart from the emulator. It searches lists at every access, and is slow.
 | instructions | what each instruction does |
 | running | turns, events, the trace |
 | images, scripts | image files and texts that order events, read or refused |
+| generator | the image and script that are made of a number, and their summary |
 | outside | the words of a command line, files and areas, the whole report |
 """

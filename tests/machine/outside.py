@@ -1,11 +1,12 @@
-"""The words of a command line, the files and areas of a folder, and the whole report of a run."""
+"""The words of a command line, the files and areas of a folder, and the whole report."""
 
 import hashlib
 import pathlib
 import re
 
-from . import images, records, running, scripts
+from . import generator, images, records, running, scripts
 from .state import Machine
+from .values import MASK
 
 # statuses
 ENDED, WORDS, LIMIT, NO_FILE, IMAGE, SCRIPT, STORE, CHIP_FAULT = 0, 2, 3, 4, 5, 6, 7, 11
@@ -47,9 +48,9 @@ def take_value(words):
     return words.pop(0)
 
 
-def read_option(word, words, options):
+def read_option(word, words, options, known):
     name, equals, value = word.partition("=")
-    if name not in OPTIONS or name in options or (name == "--store" and equals):
+    if name not in known or name in options or (name == "--store" and equals):
         raise Fault("words")
     if name == "--store":
         options[name] = True
@@ -57,15 +58,15 @@ def read_option(word, words, options):
         options[name] = read_value(name, value if equals else take_value(words))
 
 
-def read_words(words):
-    """The plain words and the options by their names; the first word is left out."""
+def read_words(words, known=OPTIONS):
+    """The plain word and the options by their names; the first word is left out."""
     words, plain, options = list(words), [], {}
     while words:
         word = words.pop(0)
         if word == "--":
             plain, words = plain + words, []
         elif word.startswith("-") and word != "-":
-            read_option(word, words, options)
+            read_option(word, words, options, known)
         else:
             plain.append(word)
     if "" in plain or len(plain) != 1:
@@ -136,15 +137,30 @@ def prepare(words, folder):
     return Machine(ram, entry, harts, kept), commands, options, vault
 
 
-def run(words, folder="."):
-    """The status and the text of a run in this folder, whose store it keeps."""
+def generate(words):
+    plain, _ = read_words(words, {})
+    is_off, text = generator.summary(read_number(plain, 0, MASK))
+    return ENDED if is_off else LIMIT, text
+
+
+def call(words, folder="."):
+    """The status and the text of a call with these words in this folder, whose store it keeps."""
     try:
-        if not words or words[0] != "run":
+        if any("\udc80" <= letter <= "\udcff" for word in words for letter in word):
+            # a byte that is no UTF-8
             raise Fault("words")
-        machine, commands, options, vault = prepare(words[1:], pathlib.Path(folder))
+        if words[:1] == ["gen"]:
+            return generate(words[1:])
+        if words[:1] == ["run"]:
+            return run(words[1:], pathlib.Path(folder))
+        raise Fault("words")
     except Fault as fault:
         line = str(fault)
         return STATUSES[line.split()[0]], line + "\n"
+
+
+def run(words, folder):
+    machine, commands, options, vault = prepare(words, folder)
     events = scripts.events(commands, len(machine.harts))
     running.run(machine, events, options.get("--steps", 10**6), options.get("--blind"))
     if vault:
