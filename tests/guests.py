@@ -10,9 +10,19 @@ from interpreter import LAUNCHED, Machine
 HERE = pathlib.Path(__file__).resolve().parent
 TESTS = HERE.parent / "crates" / "bn_machine" / "src" / "tests"
 PREFIX = "riscv64-unknown-elf-"
-# the folders of guests that stand in one test module each, with what the emulator lacks there
-FOLDERS = {"launches": LAUNCHED, "owned_pages": LAUNCHED}
-# guests of parts that the emulator doesn't have yet
+# folders of guests that stand in one test module each: what the emulator lacks there, what they are,
+# and the test's name
+FOLDERS = {
+    "launches": (
+        LAUNCHED,
+        "Guests that launch modules: what a module is known by, and each refusal in its order.",
+        "modules_are_launched_or_refused"),
+    "owned_pages": (
+        LAUNCHED,
+        "Guests that reach for the pages of modules, as programs and by their page tables.",
+        "pages_of_modules_are_their_own"),
+}
+# a folder of guests of parts that the emulator doesn't have yet
 LATER = "later"
 # as many events as a guest of a folder may have
 ALL = 60_000
@@ -141,14 +151,15 @@ def test_name(name):
     }[name]
 
 
-ABOUT = {
-    "launches": "Guests that launch modules: what a module is known by, and each refusal in its order.",
-    "owned_pages": "Guests that reach for the pages of modules, as programs and by their page tables.",
-}
-TESTS_OF_FOLDERS = {
-    "launches": "modules_are_launched_or_refused",
-    "owned_pages": "pages_of_modules_are_their_own",
-}
+def spelled(word, text):
+    """The text of a word, or the name of a secure instruction that GNU as doesn't know."""
+    names = "launch call ret evict ident caller offerer sget sset".split()
+    index = word >> 12 & 7 | (word >> 25) << 3
+    if word & 127 != 0x0B or index >= len(names):
+        return text
+    registers = [f"x{word >> at & 31}" for at in (7, 15, 20)]
+    count = {"call": 3, "ident": 3, "sset": 3, "ret": 0, "caller": 1}.get(names[index], 2)
+    return f"b.{names[index]} {','.join(registers[:count])}".strip()
 
 
 def listing(name):
@@ -161,7 +172,8 @@ def listing(name):
     lines = trace(name, image)
     out = comment("//", about)
     out += [f"const {prefix}_CODE: [u32; {len(words)}] = ["]
-    out += [f"    0x{word:08x}, // {text}" for word, text in zip(words, texts)] + ["];", ""]
+    out += [f"    0x{word:08x}, // {spelled(word, text)}" for word, text in zip(words, texts)]
+    out += ["];", ""]
     out += [f"const {prefix}_TABLES: [(usize, u64); {len(tables)}] = ["]
     out += [f"    ({at}, 0x{number:x})," for at, number in tables] + ["];", ""]
     out += [f"const {prefix}_LINES: [&str; {len(lines)}] = ["]
@@ -173,20 +185,22 @@ def listing(name):
 
 def trace(name, image):
     folder = name.split("/")[0]
-    return Machine(image, settings(name)[1], FOLDERS.get(folder, ())).run(steps(name))
+    unbuilt = FOLDERS[folder][0] if folder in FOLDERS else ()
+    return Machine(image, settings(name)[1], unbuilt).run(steps(name))
 
 
 def folder_module(folder):
     """The test module of a folder of guests."""
     found = [listing(name) for name in names(folder)]
-    out = [f"//! {ABOUT[folder]}",
+    _, about, test = FOLDERS[folder]
+    out = [f"//! {about}",
            "//! Made by `tests/make` from their assembly; the traces are those of `tests/interpreter.py`.",
            "", "use super::guest::{Guest, expect_guests};", ""]
     for arrays, _ in found:
         out += arrays
     out += [f"const GUESTS: [Guest<'static>; {len(found)}] = ["]
     out += [line for _, entry in found for line in entry] + ["];", ""]
-    out += ["#[test]", f"fn {TESTS_OF_FOLDERS[folder]}(rt: HostRuntime) {{",
+    out += ["#[test]", f"fn {test}(rt: HostRuntime) {{",
             "    expect_guests(&rt, rt.alloc(), &GUESTS);", "}", ""]
     return "\n".join(out)
 

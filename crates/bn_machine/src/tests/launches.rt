@@ -12,12 +12,12 @@ const ACCEPTED_TWICE_CODE: [u32; 34] = [
     0x180f9073, // csrrw x0,satp,x31
     0x00008417, // auipc x8,0x8
     0xff040413, // addi x8,x8,-16
-    0x0004028b, // .4byte 0x4028b
+    0x0004028b, // b.launch x5,x8
     0x00100f93, // addi x31,x0,1
     0x05f29a63, // bne x5,x31,0x80000074
     0x00008417, // auipc x8,0x8
     0x4ac40413, // addi x8,x8,1196
-    0x0004028b, // .4byte 0x4028b
+    0x0004028b, // b.launch x5,x8
     0x00200f93, // addi x31,x0,2
     0x05f29063, // bne x5,x31,0x80000074
     0x00003497, // auipc x9,0x3
@@ -27,11 +27,11 @@ const ACCEPTED_TWICE_CODE: [u32; 34] = [
     0x0064b023, // sd x6,0(x9)
     0x0084b303, // ld x6,8(x9)
     0x0074b423, // sd x7,8(x9)
-    0x0004028b, // .4byte 0x4028b
+    0x0004028b, // b.launch x5,x8
     0xffa00f93, // addi x31,x0,-6
     0x01f29c63, // bne x5,x31,0x80000074
     0x0064b423, // sd x6,8(x9)
-    0x0004028b, // .4byte 0x4028b
+    0x0004028b, // b.launch x5,x8
     0xff900f93, // addi x31,x0,-7
     0x01f29463, // bne x5,x31,0x80000074
     0x0100006f, // jal x0,0x80000080
@@ -85,55 +85,55 @@ const ADDRESSES_CODE: [u32; 60] = [
     0x00008497, // auipc x9,0x8
     0x00048493, // addi x9,x9,0
     0x00448413, // addi x8,x9,4
-    0x0004028b, // .4byte 0x4028b
+    0x0004028b, // b.launch x5,x8
     0xfff00f93, // addi x31,x0,-1
     0x0df29463, // bne x5,x31,0x800000dc
     0x16700393, // addi x7,x0,359
     0x00339393, // slli x7,x7,0x3
     0x00748433, // add x8,x9,x7
-    0x0004028b, // .4byte 0x4028b
+    0x0004028b, // b.launch x5,x8
     0xfff00f93, // addi x31,x0,-1
     0x0bf29863, // bne x5,x31,0x800000dc
     0x00009417, // auipc x8,0x9
     0xfc840413, // addi x8,x8,-56
-    0x0004028b, // .4byte 0x4028b
+    0x0004028b, // b.launch x5,x8
     0xfff00f93, // addi x31,x0,-1
     0x09f29e63, // bne x5,x31,0x800000dc
     0xb3840413, // addi x8,x8,-1224
-    0x0004028b, // .4byte 0x4028b
+    0x0004028b, // b.launch x5,x8
     0xff000f93, // addi x31,x0,-16
     0x09f29663, // bne x5,x31,0x800000dc
     0x00048413, // addi x8,x9,0
-    0x0004028b, // .4byte 0x4028b
+    0x0004028b, // b.launch x5,x8
     0xff000f93, // addi x31,x0,-16
     0x07f29e63, // bne x5,x31,0x800000dc
     0x0001f417, // auipc x8,0x1f
     0xf9c40413, // addi x8,x8,-100
-    0x0004028b, // .4byte 0x4028b
+    0x0004028b, // b.launch x5,x8
     0xff000f93, // addi x31,x0,-16
     0x07f29463, // bne x5,x31,0x800000dc
     0x00020417, // auipc x8,0x20
     0xf8840413, // addi x8,x8,-120
-    0x0004028b, // .4byte 0x4028b
+    0x0004028b, // b.launch x5,x8
     0xffe00f93, // addi x31,x0,-2
     0x05f29a63, // bne x5,x31,0x800000dc
     0xfffff417, // auipc x8,0xfffff
     0xf7440413, // addi x8,x8,-140
-    0x0004028b, // .4byte 0x4028b
+    0x0004028b, // b.launch x5,x8
     0xffe00f93, // addi x31,x0,-2
     0x05f29063, // bne x5,x31,0x800000dc
     0x00000413, // addi x8,x0,0
-    0x0004028b, // .4byte 0x4028b
+    0x0004028b, // b.launch x5,x8
     0xffe00f93, // addi x31,x0,-2
     0x03f29863, // bne x5,x31,0x800000dc
     0x00100393, // addi x7,x0,1
     0x03839393, // slli x7,x7,0x38
     0x00748433, // add x8,x9,x7
-    0x0004028b, // .4byte 0x4028b
+    0x0004028b, // b.launch x5,x8
     0xffe00f93, // addi x31,x0,-2
     0x01f29c63, // bne x5,x31,0x800000dc
     0x00400413, // addi x8,x0,4
-    0x0004028b, // .4byte 0x4028b
+    0x0004028b, // b.launch x5,x8
     0xfff00f93, // addi x31,x0,-1
     0x01f29463, // bne x5,x31,0x800000dc
     0x0100006f, // jal x0,0x800000e8
@@ -170,38 +170,38 @@ const ALIAS_AND_OWNED_CODE: [u32; 46] = [
     0x180f9073, // csrrw x0,satp,x31
     0x00008417, // auipc x8,0x8
     0xff040413, // addi x8,x8,-16
-    0x0004028b, // .4byte 0x4028b
+    0x0004028b, // b.launch x5,x8
     0x00100f93, // addi x31,x0,1
     0x09f29263, // bne x5,x31,0x800000a4
     0x00009417, // auipc x8,0x9
     0xfdc40413, // addi x8,x8,-36
-    0x0004028b, // .4byte 0x4028b
+    0x0004028b, // b.launch x5,x8
     0xffb00f93, // addi x31,x0,-5
     0x07f29863, // bne x5,x31,0x800000a4
     0x00009417, // auipc x8,0x9
     0x49840413, // addi x8,x8,1176
-    0x0004028b, // .4byte 0x4028b
+    0x0004028b, // b.launch x5,x8
     0xffc00f93, // addi x31,x0,-4
     0x05f29e63, // bne x5,x31,0x800000a4
     0x0000a417, // auipc x8,0xa
     0x95440413, // addi x8,x8,-1708
-    0x0004028b, // .4byte 0x4028b
+    0x0004028b, // b.launch x5,x8
     0xffc00f93, // addi x31,x0,-4
     0x05f29463, // bne x5,x31,0x800000a4
     0x00040023, // sb x0,0(x8)
     0x0000a417, // auipc x8,0xa
     0x93c40413, // addi x8,x8,-1732
-    0x0004028b, // .4byte 0x4028b
+    0x0004028b, // b.launch x5,x8
     0xff000f93, // addi x31,x0,-16
     0x03f29863, // bne x5,x31,0x800000a4
     0x0000a417, // auipc x8,0xa
     0xf8840413, // addi x8,x8,-120
-    0x0004028b, // .4byte 0x4028b
+    0x0004028b, // b.launch x5,x8
     0xffb00f93, // addi x31,x0,-5
     0x01f29e63, // bne x5,x31,0x800000a4
     0x0000a417, // auipc x8,0xa
     0x44440413, // addi x8,x8,1092
-    0x0004028b, // .4byte 0x4028b
+    0x0004028b, // b.launch x5,x8
     0xffa00f93, // addi x31,x0,-6
     0x01f29463, // bne x5,x31,0x800000a4
     0x0100006f, // jal x0,0x800000b0
@@ -283,7 +283,7 @@ const DUPLICATE_CODE: [u32; 31] = [
     0x180f9073, // csrrw x0,satp,x31
     0x00009417, // auipc x8,0x9
     0xff040413, // addi x8,x8,-16
-    0x0004028b, // .4byte 0x4028b
+    0x0004028b, // b.launch x5,x8
     0x00100f93, // addi x31,x0,1
     0x05f29463, // bne x5,x31,0x80000068
     0x00003497, // auipc x9,0x3
@@ -292,14 +292,14 @@ const DUPLICATE_CODE: [u32; 31] = [
     0x0184b383, // ld x7,24(x9)
     0x0064b023, // sd x6,0(x9)
     0x0074b423, // sd x7,8(x9)
-    0x0004028b, // .4byte 0x4028b
+    0x0004028b, // b.launch x5,x8
     0xff900f93, // addi x31,x0,-7
     0x03f29263, // bne x5,x31,0x80000068
     0x00014497, // auipc x9,0x14
     0xfb748493, // addi x9,x9,-73
     0x00100313, // addi x6,x0,1
     0x00648023, // sb x6,0(x9)
-    0x0004028b, // .4byte 0x4028b
+    0x0004028b, // b.launch x5,x8
     0x00200f93, // addi x31,x0,2
     0x01f29463, // bne x5,x31,0x80000068
     0x0100006f, // jal x0,0x80000074
@@ -355,7 +355,7 @@ const FULL_CODE: [u32; 38] = [
     0x01000993, // addi x19,x0,16
     0x0064b023, // sd x6,0(x9)
     0x012a3023, // sd x18,0(x20)
-    0x0004028b, // .4byte 0x4028b
+    0x0004028b, // b.launch x5,x8
     0x05229063, // bne x5,x18,0x80000084
     0x40030313, // addi x6,x6,1024
     0x015a0a33, // add x20,x20,x21
@@ -364,11 +364,11 @@ const FULL_CODE: [u32; 38] = [
     0x0064b023, // sd x6,0(x9)
     0x00300913, // addi x18,x0,3
     0x012a3023, // sd x18,0(x20)
-    0x0004028b, // .4byte 0x4028b
+    0x0004028b, // b.launch x5,x8
     0xff900f93, // addi x31,x0,-7
     0x01f29c63, // bne x5,x31,0x80000084
     0x000a3023, // sd x0,0(x20)
-    0x0004028b, // .4byte 0x4028b
+    0x0004028b, // b.launch x5,x8
     0xff800f93, // addi x31,x0,-8
     0x01f29463, // bne x5,x31,0x80000084
     0x0100006f, // jal x0,0x80000090
@@ -417,10 +417,10 @@ const FULL_LINES: [&str; 18] = [
 const IDENTITY_CODE: [u32; 14] = [
     0x00008417, // auipc x8,0x8
     0x00040413, // addi x8,x8,0
-    0x0004028b, // .4byte 0x4028b
+    0x0004028b, // b.launch x5,x8
     0x00100f93, // addi x31,x0,1
     0x01f29a63, // bne x5,x31,0x80000024
-    0x0004030b, // .4byte 0x4030b
+    0x0004030b, // b.launch x6,x8
     0xffc00f93, // addi x31,x0,-4
     0x01f31463, // bne x6,x31,0x80000024
     0x0100006f, // jal x0,0x80000030
@@ -457,52 +457,52 @@ const OFFERS_CODE: [u32; 72] = [
     0x105f9073, // csrrw x0,stvec,x31
     0x00009417, // auipc x8,0x9
     0xff440413, // addi x8,x8,-12
-    0x0004028b, // .4byte 0x4028b
+    0x0004028b, // b.launch x5,x8
     0xffa00f93, // addi x31,x0,-6
     0x0ff29863, // bne x5,x31,0x8000010c
     0x00008417, // auipc x8,0x8
     0xfe040413, // addi x8,x8,-32
-    0x0004028b, // .4byte 0x4028b
+    0x0004028b, // b.launch x5,x8
     0x00100f93, // addi x31,x0,1
     0x0df29e63, // bne x5,x31,0x8000010c
     0x00009417, // auipc x8,0x9
     0x49c40413, // addi x8,x8,1180
-    0x0004028b, // .4byte 0x4028b
+    0x0004028b, // b.launch x5,x8
     0xffa00f93, // addi x31,x0,-6
     0x0df29463, // bne x5,x31,0x8000010c
     0x0000a417, // auipc x8,0xa
     0x95840413, // addi x8,x8,-1704
-    0x0004028b, // .4byte 0x4028b
+    0x0004028b, // b.launch x5,x8
     0xffa00f93, // addi x31,x0,-6
     0x0bf29a63, // bne x5,x31,0x8000010c
     0x0000a417, // auipc x8,0xa
     0xfa440413, // addi x8,x8,-92
-    0x0004028b, // .4byte 0x4028b
+    0x0004028b, // b.launch x5,x8
     0xffa00f93, // addi x31,x0,-6
     0x0bf29063, // bne x5,x31,0x8000010c
     0x0000a417, // auipc x8,0xa
     0x46040413, // addi x8,x8,1120
-    0x0004028b, // .4byte 0x4028b
+    0x0004028b, // b.launch x5,x8
     0xffa00f93, // addi x31,x0,-6
     0x09f29663, // bne x5,x31,0x8000010c
     0x00009417, // auipc x8,0x9
     0xf7c40413, // addi x8,x8,-132
-    0x0004028b, // .4byte 0x4028b
+    0x0004028b, // b.launch x5,x8
     0x00200f93, // addi x31,x0,2
     0x07f29c63, // bne x5,x31,0x8000010c
     0x00009417, // auipc x8,0x9
     0xf6840413, // addi x8,x8,-152
-    0x0004028b, // .4byte 0x4028b
+    0x0004028b, // b.launch x5,x8
     0xffc00f93, // addi x31,x0,-4
     0x07f29263, // bne x5,x31,0x8000010c
     0x00008417, // auipc x8,0x8
     0x42440413, // addi x8,x8,1060
-    0x0004028b, // .4byte 0x4028b
+    0x0004028b, // b.launch x5,x8
     0xffc00f93, // addi x31,x0,-4
     0x05f29863, // bne x5,x31,0x8000010c
     0x00009417, // auipc x8,0x9
     0x8e040413, // addi x8,x8,-1824
-    0x0004028b, // .4byte 0x4028b
+    0x0004028b, // b.launch x5,x8
     0xffc00f93, // addi x31,x0,-4
     0x03f29e63, // bne x5,x31,0x8000010c
     0x00014417, // auipc x8,0x14
@@ -627,29 +627,29 @@ const PLACES_CODE: [u32; 64] = [
     0x180f9073, // csrrw x0,satp,x31
     0x00008417, // auipc x8,0x8
     0xff040413, // addi x8,x8,-16
-    0x0004028b, // .4byte 0x4028b
+    0x0004028b, // b.launch x5,x8
     0x00100f93, // addi x31,x0,1
     0x0df29663, // bne x5,x31,0x800000ec
     0x00009497, // auipc x9,0x9
     0xfdc48493, // addi x9,x9,-36
     0x01200393, // addi x7,x0,18
     0x0674b023, // sd x7,96(x9)
-    0x0004828b, // .4byte 0x4828b
+    0x0004828b, // b.launch x5,x9
     0xffd00f93, // addi x31,x0,-3
     0x0bf29863, // bne x5,x31,0x800000ec
     0x01300393, // addi x7,x0,19
     0x0674b023, // sd x7,96(x9)
-    0x0004828b, // .4byte 0x4828b
+    0x0004828b, // b.launch x5,x9
     0xffd00f93, // addi x31,x0,-3
     0x09f29e63, // bne x5,x31,0x800000ec
     0x60000393, // addi x7,x0,1536
     0x0674b023, // sd x7,96(x9)
-    0x0004828b, // .4byte 0x4828b
+    0x0004828b, // b.launch x5,x9
     0xffd00f93, // addi x31,x0,-3
     0x09f29463, // bne x5,x31,0x800000ec
     0x00048023, // sb x0,0(x9)
     0x0674b023, // sd x7,96(x9)
-    0x0004828b, // .4byte 0x4828b
+    0x0004828b, // b.launch x5,x9
     0xff000f93, // addi x31,x0,-16
     0x07f29a63, // bne x5,x31,0x800000ec
     0x04200313, // addi x6,x0,66
@@ -657,7 +657,7 @@ const PLACES_CODE: [u32; 64] = [
     0x00100393, // addi x7,x0,1
     0x01a39393, // slli x7,x7,0x1a
     0x0674b023, // sd x7,96(x9)
-    0x0004828b, // .4byte 0x4828b
+    0x0004828b, // b.launch x5,x9
     0xffd00f93, // addi x31,x0,-3
     0x05f29a63, // bne x5,x31,0x800000ec
     0x01200393, // addi x7,x0,18
@@ -666,7 +666,7 @@ const PLACES_CODE: [u32; 64] = [
     0x00c31313, // slli x6,x6,0xc
     0x0064b823, // sd x6,16(x9)
     0x0674b023, // sd x7,96(x9)
-    0x0004828b, // .4byte 0x4828b
+    0x0004828b, // b.launch x5,x9
     0xffd00f93, // addi x31,x0,-3
     0x03f29863, // bne x5,x31,0x800000ec
     0x01000313, // addi x6,x0,16
@@ -676,7 +676,7 @@ const PLACES_CODE: [u32; 64] = [
     0xfff00393, // addi x7,x0,-1
     0x00c3d393, // srli x7,x7,0xc
     0x0674b023, // sd x7,96(x9)
-    0x0004828b, // .4byte 0x4828b
+    0x0004828b, // b.launch x5,x9
     0x00200f93, // addi x31,x0,2
     0x01f29463, // bne x5,x31,0x800000ec
     0x0100006f, // jal x0,0x800000f8
@@ -746,14 +746,14 @@ const TEXTS_CODE: [u32; 32] = [
     0x0054cc83, // lbu x25,5(x9)
     0x018a0023, // sb x24,0(x20)
     0x019a8023, // sb x25,0(x21)
-    0x0004028b, // .4byte 0x4028b
+    0x0004028b, // b.launch x5,x8
     0x016a0023, // sb x22,0(x20)
     0x017a8023, // sb x23,0(x21)
     0x00648303, // lb x6,6(x9)
     0x00629e63, // bne x5,x6,0x8000006c
     0x00848493, // addi x9,x9,8
     0xfd2490e3, // bne x9,x18,0x80000018
-    0x0004028b, // .4byte 0x4028b
+    0x0004028b, // b.launch x5,x8
     0x00100f93, // addi x31,x0,1
     0x01f29463, // bne x5,x31,0x8000006c
     0x0100006f, // jal x0,0x80000078
@@ -889,44 +889,44 @@ const UNMAPPED_CODE: [u32; 52] = [
     0x180f9073, // csrrw x0,satp,x31
     0x00008417, // auipc x8,0x8
     0xff040413, // addi x8,x8,-16
-    0x0004028b, // .4byte 0x4028b
+    0x0004028b, // b.launch x5,x8
     0x00100f93, // addi x31,x0,1
     0x09f29e63, // bne x5,x31,0x800000bc
     0x00010437, // lui x8,0x10
-    0x0004028b, // .4byte 0x4028b
+    0x0004028b, // b.launch x5,x8
     0xffe00f93, // addi x31,x0,-2
     0x09f29663, // bne x5,x31,0x800000bc
     0x00011437, // lui x8,0x11
-    0x0004028b, // .4byte 0x4028b
+    0x0004028b, // b.launch x5,x8
     0xffe00f93, // addi x31,x0,-2
     0x07f29e63, // bne x5,x31,0x800000bc
     0x00012437, // lui x8,0x12
-    0x0004028b, // .4byte 0x4028b
+    0x0004028b, // b.launch x5,x8
     0xffe00f93, // addi x31,x0,-2
     0x07f29663, // bne x5,x31,0x800000bc
     0x00400437, // lui x8,0x400
-    0x0004028b, // .4byte 0x4028b
+    0x0004028b, // b.launch x5,x8
     0xffe00f93, // addi x31,x0,-2
     0x05f29e63, // bne x5,x31,0x800000bc
     0x00600437, // lui x8,0x600
-    0x0004028b, // .4byte 0x4028b
+    0x0004028b, // b.launch x5,x8
     0xffe00f93, // addi x31,x0,-2
     0x05f29663, // bne x5,x31,0x800000bc
     0x00800437, // lui x8,0x800
-    0x0004028b, // .4byte 0x4028b
+    0x0004028b, // b.launch x5,x8
     0xffe00f93, // addi x31,x0,-2
     0x03f29e63, // bne x5,x31,0x800000bc
     0x00013437, // lui x8,0x13
-    0x0004028b, // .4byte 0x4028b
+    0x0004028b, // b.launch x5,x8
     0xffe00f93, // addi x31,x0,-2
     0x03f29663, // bne x5,x31,0x800000bc
     0x00100413, // addi x8,x0,1
     0x02641413, // slli x8,x8,0x26
-    0x0004028b, // .4byte 0x4028b
+    0x0004028b, // b.launch x5,x8
     0xffe00f93, // addi x31,x0,-2
     0x01f29c63, // bne x5,x31,0x800000bc
     0x00014437, // lui x8,0x14
-    0x0004028b, // .4byte 0x4028b
+    0x0004028b, // b.launch x5,x8
     0x00200f93, // addi x31,x0,2
     0x01f29463, // bne x5,x31,0x800000bc
     0x0100006f, // jal x0,0x800000c8
@@ -986,7 +986,7 @@ const UNTRANSLATED_CODE: [u32; 28] = [
     0x000803b7, // lui x7,0x80
     0x02038393, // addi x7,x7,32
     0x06743023, // sd x7,96(x8)
-    0x0004028b, // .4byte 0x4028b
+    0x0004028b, // b.launch x5,x8
     0xffd00f93, // addi x31,x0,-3
     0x05f29063, // bne x5,x31,0x8000005c
     0x00100393, // addi x7,x0,1
@@ -995,12 +995,12 @@ const UNTRANSLATED_CODE: [u32; 28] = [
     0x006383b3, // add x7,x7,x6
     0x01138393, // addi x7,x7,17
     0x06743023, // sd x7,96(x8)
-    0x0004028b, // .4byte 0x4028b
+    0x0004028b, // b.launch x5,x8
     0xffd00f93, // addi x31,x0,-3
     0x01f29e63, // bne x5,x31,0x8000005c
     0x01130313, // addi x6,x6,17
     0x06643023, // sd x6,96(x8)
-    0x0004028b, // .4byte 0x4028b
+    0x0004028b, // b.launch x5,x8
     0x00100f93, // addi x31,x0,1
     0x01f29463, // bne x5,x31,0x8000005c
     0x0100006f, // jal x0,0x80000068

@@ -12,7 +12,7 @@ const OTHERS_PAGES_CODE: [u32; 124] = [
     0x105f9073, // csrrw x0,stvec,x31
     0x00008417, // auipc x8,0x8
     0xff440413, // addi x8,x8,-12
-    0x0004028b, // .4byte 0x4028b
+    0x0004028b, // b.launch x5,x8
     0x00100f93, // addi x31,x0,1
     0x1df29063, // bne x5,x31,0x800001dc
     0x00010417, // auipc x8,0x10
@@ -184,7 +184,7 @@ const OTHERS_PAGES_TRANSLATED_CODE: [u32; 103] = [
     0x180f9073, // csrrw x0,satp,x31
     0x00008417, // auipc x8,0x8
     0xfe440413, // addi x8,x8,-28
-    0x0004028b, // .4byte 0x4028b
+    0x0004028b, // b.launch x5,x8
     0x00100f93, // addi x31,x0,1
     0x15f29e63, // bne x5,x31,0x80000188
     0x00011417, // auipc x8,0x11
@@ -333,7 +333,7 @@ const OWN_CODE_CODE: [u32; 7] = [
     0x105f9073, // csrrw x0,stvec,x31
     0x00008417, // auipc x8,0x8
     0xff440413, // addi x8,x8,-12
-    0x0004028b, // .4byte 0x4028b
+    0x0004028b, // b.launch x5,x8
     0x00000293, // addi x5,x0,0
 ];
 
@@ -372,7 +372,7 @@ const OWN_LEAVES_CODE: [u32; 11] = [
     0x180f9073, // csrrw x0,satp,x31
     0x00008417, // auipc x8,0x8
     0xfe440413, // addi x8,x8,-28
-    0x0004028b, // .4byte 0x4028b
+    0x0004028b, // b.launch x5,x8
     0x00000293, // addi x5,x0,0
 ];
 
@@ -409,7 +409,7 @@ const OWN_ROOT_CODE: [u32; 10] = [
     0x105f9073, // csrrw x0,stvec,x31
     0x00008417, // auipc x8,0x8
     0xff440413, // addi x8,x8,-12
-    0x0004028b, // .4byte 0x4028b
+    0x0004028b, // b.launch x5,x8
     0x00000317, // auipc x6,0x0
     0x3e830313, // addi x6,x6,1000
     0x00033303, // ld x6,0(x6)
