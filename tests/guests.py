@@ -3,12 +3,29 @@ import pathlib
 import re
 import subprocess
 import tempfile
+import textwrap
 
-from interpreter import Machine
+from interpreter import LAUNCHED, Machine
 
 HERE = pathlib.Path(__file__).resolve().parent
 TESTS = HERE.parent / "crates" / "bn_machine" / "src" / "tests"
 PREFIX = "riscv64-unknown-elf-"
+# folders of guests that stand in one test module each: what the emulator lacks there, what they are,
+# and the test's name
+FOLDERS = {
+    "launches": (
+        LAUNCHED,
+        "Guests that launch modules: what a module is known by, and each refusal in its order.",
+        "modules_are_launched_or_refused"),
+    "owned_pages": (
+        LAUNCHED,
+        "Guests that reach for the pages of modules, as programs and by their page tables.",
+        "pages_of_modules_are_their_own"),
+}
+# a folder of guests of parts that the emulator doesn't have yet
+LATER = "later"
+# as many events as a guest of a folder may have
+ALL = 60_000
 
 
 def tool(name, *words):
@@ -47,8 +64,24 @@ def listed(image):
 def settings(name):
     """The first comment of a guest, and its pages of RAM."""
     text = (HERE / "guests" / f"{name}.S").read_text()
-    about = re.match(r"((?:# .*\n)+?)# ram (\d+)\n", text)
+    about = re.match(r"((?:# .*\n)+?)# ram (\d+)(?: steps \d+)?\n", text)
     return about.group(1).replace("# ", ""), int(about.group(2))
+
+
+def steps(name):
+    """The events of a guest that doesn't shut down, or more than it needs."""
+    text = (HERE / "guests" / f"{name}.S").read_text()
+    found = re.search(r"^# ram \d+ steps (\d+)$", text, re.M)
+    return int(found.group(1)) if found else ALL
+
+
+def lines_by_hand(name):
+    """The trace without its end as it was derived by hand, each line as a pattern: N stands for the
+    number of an event, P for an address, I for an identity."""
+    text = (HERE / "guests" / f"{name}.S").read_text()
+    spelled = {"N": r"\d+", "P": "[0-9a-f]{16}", "I": "[0-9a-f]{64}"}
+    return [" ".join(spelled.get(field, field) for field in line.split(" "))
+            for line in re.findall(r"^#: (.*)$", text, re.M)]
 
 
 def parts(image):
@@ -71,8 +104,8 @@ def module(name):
     is_built = lines[-1] != "unbuilt"
     uses = (["bytes_of_code", "expect_image", "push_pairs"] if tables else
             ["expect_code"] if is_built else ["bytes_of_code", "run_image"])
-    out = [f"//! {line}" for line in about.strip().split("\n")]
-    out += ["//! Made by `tests/make` from its assembly; the trace is that of `tests/interpreter.py`.", ""]
+    made = "Made by `tests/make` from its assembly; the trace is that of `tests/interpreter.py`."
+    out = comment("//!", about + made) + [""]
     out += [f"use super::{{{', '.join(uses)}}};" if len(uses) > 1 else f"use super::{uses[0]};"]
     if not is_built:
         out += ["use bn_types::Status;"]
@@ -96,6 +129,14 @@ def module(name):
     return "\n".join(out + ["}", ""])
 
 
+def comment(mark, text):
+    """A comment of the text, in its lines where they fit and else in lines of a whole."""
+    lines = text.strip().split("\n")
+    if any(len(line) > 100 - len(mark) - 1 for line in lines):
+        lines = textwrap.wrap(" ".join(lines), 100 - len(mark) - 1)
+    return [f"{mark} {line}" for line in lines]
+
+
 def test_name(name):
     return {
         "registers": "registers_read_back_what_was_written",
@@ -110,5 +151,61 @@ def test_name(name):
     }[name]
 
 
-def names():
-    return sorted(path.stem for path in (HERE / "guests").glob("*.S"))
+def spelled(word, text):
+    """The text of a word, or the name of a secure instruction that GNU as doesn't know."""
+    names = "launch call ret evict ident caller offerer sget sset".split()
+    index = word >> 12 & 7 | (word >> 25) << 3
+    if word & 127 != 0x0B or index >= len(names):
+        return text
+    registers = [f"x{word >> at & 31}" for at in (7, 15, 20)]
+    count = {"call": 3, "ident": 3, "sset": 3, "ret": 0, "caller": 1}.get(names[index], 2)
+    return f"b.{names[index]} {','.join(registers[:count])}".strip()
+
+
+def listing(name):
+    """The arrays of a guest of a folder, and its place in the table of guests."""
+    about, _ = settings(name)
+    folder, stem = name.split("/")
+    image, prefix = assembled(name), stem.upper()
+    words, tables = parts(image)
+    texts = listed(image[:4 * len(words)])
+    lines = trace(name, image)
+    out = comment("//", about)
+    out += [f"const {prefix}_CODE: [u32; {len(words)}] = ["]
+    out += [f"    0x{word:08x}, // {spelled(word, text)}" for word, text in zip(words, texts)]
+    out += ["];", ""]
+    out += [f"const {prefix}_TABLES: [(usize, u64); {len(tables)}] = ["]
+    out += [f"    ({at}, 0x{number:x})," for at, number in tables] + ["];", ""]
+    out += [f"const {prefix}_LINES: [&str; {len(lines)}] = ["]
+    out += [f'    "{line}\\n",' for line in lines] + ["];", ""]
+    entry = ["    Guest {", f"        code: &{prefix}_CODE,", f"        tables: &{prefix}_TABLES,",
+             f"        steps: {steps(name):_},", f"        lines: &{prefix}_LINES,", "    },"]
+    return out, entry
+
+
+def trace(name, image):
+    folder = name.split("/")[0]
+    unbuilt = FOLDERS[folder][0] if folder in FOLDERS else ()
+    return Machine(image, settings(name)[1], unbuilt).run(steps(name))
+
+
+def folder_module(folder):
+    """The test module of a folder of guests."""
+    found = [listing(name) for name in names(folder)]
+    _, about, test = FOLDERS[folder]
+    out = [f"//! {about}",
+           "//! Made by `tests/make` from their assembly; the traces are those of `tests/interpreter.py`.",
+           "", "use super::guest::{Guest, expect_guests};", ""]
+    for arrays, _ in found:
+        out += arrays
+    out += [f"const GUESTS: [Guest<'static>; {len(found)}] = ["]
+    out += [line for _, entry in found for line in entry] + ["];", ""]
+    out += ["#[test]", f"fn {test}(rt: HostRuntime) {{",
+            "    expect_guests(&rt, rt.alloc(), &GUESTS);", "}", ""]
+    return "\n".join(out)
+
+
+def names(folder=None):
+    """The guests with a module of their own, or those of a folder."""
+    place = HERE / "guests" / folder if folder else HERE / "guests"
+    return sorted(f"{folder}/{path.stem}" if folder else path.stem for path in place.glob("*.S"))

@@ -102,7 +102,7 @@ def check_words(fault):
 def executed(text, left, right):
     """The machine after an instruction that stands at the start of RAM, with x5 and x6 as given."""
     machine = Machine(words_of([text])[0].to_bytes(4, "little"), 16)
-    machine.x[5], machine.x[6] = left & MASK, right & MASK
+    machine.hart.x[5], machine.hart.x[6] = left & MASK, right & MASK
     machine.execute(machine.load(RAM, 4, FETCH))
     return machine
 
@@ -114,14 +114,14 @@ def check_values(fault):
             f = last(row)
             word = "w" if table.startswith("WORD") else ""
             if table in ("REGISTERS", "WORDS"):
-                done = executed(f"{low(f[0])}{word} x1, x5, x6", f[1], f[2]).x[1]
+                done = executed(f"{low(f[0])}{word} x1, x5, x6", f[1], f[2]).hart.x[1]
             elif table == "IMMEDIATES":
                 name = {"Sltu": "sltiu"}.get(f[0], low(f[0]) + "i")
-                done = executed(f"{name} x1, x5, {f[2]}", f[1], 0).x[1]
+                done = executed(f"{name} x1, x5, {f[2]}", f[1], 0).hart.x[1]
             elif table in ("SHIFTS", "WORD_SHIFTS"):
-                done = executed(f"{SHIFTS[f[0]]}i{word} x1, x5, {f[2]}", f[1], 0).x[1]
+                done = executed(f"{SHIFTS[f[0]]}i{word} x1, x5, {f[2]}", f[1], 0).hart.x[1]
             elif table == "BRANCHES":
-                done = "true" if executed(f"b{low(f[0])} x5, x6, . + 16", f[1], f[2]).pc == RAM + 16 else "false"
+                done = "true" if executed(f"b{low(f[0])} x5, x6, . + 16", f[1], f[2]).hart.pc == RAM + 16 else "false"
             elif table == "LOADS":
                 size = {"B1": 1, "B2": 2, "B4": 4, "B8": 8}[f[0]]
                 number = f[2] & (1 << 8 * size) - 1

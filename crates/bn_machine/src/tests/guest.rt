@@ -1,0 +1,41 @@
+//! Guests in a table, each with its trace.
+
+use super::{bytes_of_code, push_pairs, run_image};
+use bn_types::Status;
+use std::alloc::Global;
+use std::process::Abort;
+
+/// As many events as a guest of a table may have that shuts down.
+const ALL: u16 = 60_000;
+
+/// A guest, and the trace of its run.
+#[derive(Clone, Copy)]
+pub struct Guest<'a> {
+    /// Its instructions, from the start of RAM on.
+    pub code: &'a [u32],
+    /// Its tables and pages: byte offsets, ascending, and the numbers there.
+    pub tables: &'a [(usize, u64)],
+    /// The events of its run, 60,000 where it shuts down.
+    pub steps: u16,
+    /// Its trace.
+    pub lines: &'a [&'a str],
+}
+
+fn expect_guest(rt: &impl Abort, alloc: Global, guest: &Guest<'_>) {
+    let mut image = bytes_of_code(alloc, guest.code).expect(rt, "memory");
+    push_pairs(&mut image, guest.tables).expect(rt, "memory");
+    let status = run_image(rt, alloc, 32, u64::from(guest.steps), &image, guest.lines);
+    let wanted = if guest.steps < ALL {
+        Status::Limit
+    } else {
+        Status::Ended
+    };
+    assert_eq!(rt; status, wanted);
+}
+
+/// Each guest's run, in a RAM of 32 pages, has its trace.
+pub fn expect_guests(rt: &impl Abort, alloc: Global, guests: &[Guest<'_>]) {
+    for guest in guests {
+        expect_guest(rt, alloc, guest);
+    }
+}
