@@ -1,2 +1,3 @@
 pub mod WordTexts
 pub mod Judgements
+pub mod WholePages

@@ -14,6 +14,9 @@ IsWhole None = Unit {0}
 IsWhole (Some None) = Unit {0}
 IsWhole (Some (Some bytes)) = (length bytes ≡ 4096) × AreBytes bytes
 
+abbrev pub IsWholePage : Option (List ℕ) → Type 0
+IsWholePage page = IsWhole (Some page)
+
 abbrev pub AreWhole : List (Option (List ℕ)) → Type 0
 AreWhole pages = (page : ℕ) → IsWhole (slice_get pages page)
 

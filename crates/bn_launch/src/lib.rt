@@ -12,3 +12,5 @@ mod judging;
 mod measuring;
 mod reading;
 mod sourcing;
+#[cfg(test)]
+mod tests;

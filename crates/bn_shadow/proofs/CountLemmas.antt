@@ -1,14 +1,17 @@
 -- What the counts of declarations say, and how they grow.
 use Rattle.std.proofs.Common.{◌≡◌, cond, ℕ, ◌+◌, ◌*◌, ◌≤◌, ◌<◌, Bool, true, false, ◌||◌, List, []}
-use Rattle.std.proofs.Common.{◌∷◌, ◌++◌, length, map, get_or, replicate, ◌⊎◌, inl, inr, refl, sym}
-use Rattle.std.proofs.Common.{ap, ◌∙◌, arith}
+use Rattle.std.proofs.Common.{◌∷◌, ◌++◌, length, map, replicate, ◌⊎◌, inl, inr, refl, sym}
+use Rattle.std.proofs.Common.{ap, ◌∙◌, arith, take, drop}
+use Rattle.std.proofs.lemmas.List.Sums.{count_by-le-length}
 use Rattle.std.specs.Prelude.{◌==◌, not, count_by, flat_map, slice_index}
-use Rattle.std.specs.List.{list_any}
+use Rattle.std.specs.List.{All, list_any}
 use Rattle.std.proofs.lemmas.Bool.{cases_lt}
 use Rattle.std.proofs.lemmas.Bool.Decides.{nat_tests}
 use Rattle.std.proofs.lemmas.List.{append-nil, get_or-replicate, get_or_past, length-append}
+use Rattle.std.proofs.lemmas.List.{take-append-drop}
 use Rattle.std.proofs.lemmas.List.{length-map, length-replicate}
 use Rattle.std.proofs.lemmas.List.Concat.{flat_map-append}
+use Rattle.std.proofs.lemmas.List.Elements.{All-nil, All-push, All-tail}
 use Rattle.std.proofs.lemmas.List.Recursion.{is_count_by}
 use Rattle.bn_types.specs.declared.decl.Decl.{Decl}
 use Rattle.bn_types.specs.declared.mod_id.ModId.{ModId}
@@ -39,7 +42,11 @@ pub counted-empty : (live : List Owner) (counts : List ℕ) (n : ℕ) → live �
     → counts ≡ replicate n 0 → IsCounted live counts
 unfolding claims
 counted-empty live counts n none zeros =
-    rw (none, zeros) (record { counts = counts-none n; few = omega arith })
+    rw (none, zeros)
+    (record {
+      counts = counts-none n;
+      few = All-nil (λ (owner : Owner). length owner.decls.items ≤ 64);
+    })
 
 -- ---- a page is owned where it is counted
 
@@ -105,13 +112,73 @@ counted-more live now owner old new h e few each = rw e (record {
   counts = λ page. each page
       ∙ (ap (λ (n : ℕ). n + count_by (is_same_page page) owner.decls.items) (h.counts page)
       ∙ sym (count-more live owner page));
-  few =
-      rw (claims-more live owner)
-      (omega (
-        arith,
-        h.few,
-        length-append (claims live) (claims_by owner),
-        length-map owner.decls.items (claim_by owner.id),
-        length-append live (owner ∷ []),
-      ));
+  few = All-push (λ (o : Owner). length o.decls.items ≤ 64) live owner h.few few;
 })
+
+-- ---- a page has few declarations
+
+pub claims_few : (live : List Owner) → All (λ (owner : Owner). length owner.decls.items ≤ 64) live
+    → length (claims live) ≤ 64 * length live
+unfolding claims
+claims_few [] h = omega arith
+claims_few (owner ∷ live) h =
+    let first : length owner.decls.items ≤ 64 = h 0 owner (omega arith) in
+    let rest = claims_few live
+    (All-tail (λ (o : Owner). length o.decls.items ≤ 64) owner live h) in
+    omega (
+      arith,
+      rest,
+      length-append (claims_by owner) (flat_map claims_by live),
+      length-map owner.decls.items (claim_by owner.id),
+    )
+
+-- a page has fewer than 65,536 declarations, also with 64 more
+pub counted-room : (live : List Owner) (counts : List ℕ) (page more : ℕ) → IsCounted live counts
+    → length live < 15 → more ≤ 64
+    → slice_index counts page + more < 65536
+counted-room live counts page more h room few =
+    omega (
+      arith,
+      h.counts page,
+      claims_few live h.few,
+      count_by-le-length (is_on page) (claims live),
+    )
+
+-- ---- declarations of several modules
+
+-- declarations of a page among those of some modules
+abbrev pub counted : ℕ → List Owner → ℕ
+counted page live = count_by (is_on page) (claims live)
+
+abbrev pub declared : ℕ → Owner → ℕ
+declared page owner = count_by (is_same_page page) owner.decls.items
+
+claims-append : (front back : List Owner) → claims (front ++ back) ≡ claims front ++ claims back
+unfolding claims
+claims-append front back = flat_map-append claims_by front back
+
+pub counted-append : (page : ℕ) (front back : List Owner)
+    → counted page (front ++ back) ≡ counted page front + counted page back
+counted-append page front back =
+    let all = tally-count (is_on page) (claims front ++ claims back) in
+    let both = tally-append (is_on page) (claims front) (claims back) in
+    let one = tally-count (is_on page) (claims front) in
+    let two = tally-count (is_on page) (claims back) in
+    ap (count_by (is_on page)) (claims-append front back) ∙ omega (arith, all, both, one, two)
+
+pub counted-one : (page : ℕ) (owner : Owner) → counted page (owner ∷ []) ≡ declared page owner
+unfolding claims
+counted-one page owner =
+    let one = tally-count (is_on page) (claims_by owner) in
+    let same = tally-claims owner.id page owner.decls.items in
+    let two = tally-count (is_same_page page) owner.decls.items in
+    ap (count_by (is_on page)) (append-nil (claims_by owner)) ∙ (sym one ∙ (same ∙ two))
+
+pub count-take : {X : Type 0} (p : X → Bool) (xs : List X) (n : ℕ)
+    → count_by p (take n xs) ≤ count_by p xs
+count-take p xs n =
+    let both = tally-append p (take n xs) (drop n xs) in
+    let all = tally-count p (take n xs ++ drop n xs) in
+    let front = tally-count p (take n xs) in
+    let same = ap (count_by p) (take-append-drop n xs) in
+    omega (arith, both, all, front, same)

@@ -53,6 +53,17 @@ fn count_up(counts: &mut [u16], decls: &[Decl])
     }
 }
 
+/// Counts declarations out.
+pub fn count_down(counts: &mut [u16], decls: &[Decl])
+    requires { (page : ℕ) → count_by (is_same_page page) decls.now ≤ slice_index counts.old page }
+    ensures { (page : ℕ) → slice_index counts.new page + count_by (is_same_page page) decls.now
+        ≡ slice_index counts.old page }
+{
+    for decl in decls {
+        counts[decl.gpn.0 as usize] -= 1;
+    }
+}
+
 /// The same declarations.
 pub fn copy_of(decls: &[Decl]) -> ArrayVec<Decl, 64>
     requires { length decls.now ≤ 64 }

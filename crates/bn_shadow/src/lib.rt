@@ -4,6 +4,7 @@
 pub use shadow::Shadow;
 
 mod counts;
+mod dropping;
 mod search;
 mod shadow;
 #[cfg(test)]

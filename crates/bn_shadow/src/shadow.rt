@@ -3,9 +3,10 @@ ghost use Rattle.bn_types.specs.declared.kind.Kind.TheVariants.{Fetch, Load, Sto
 ghost use Rattle.bn_model.specs.Admission.{admits, admits_declared, has_right};
 ghost use Rattle.bn_model.specs.Owners.{is_owned};
 ghost use Rattle.bn_model.specs.Rows.{owner_of};
-ghost use Rattle.bn_shadow.specs.Counting.{IsCounted, LieInRam};
+ghost use Rattle.bn_shadow.specs.Counting.{IsCounted, LieInRam, owners_without};
 
 use crate::counts::{copy_of, count_row, is_counted, zero_counts};
+use crate::dropping::{discount, drop_owner};
 use crate::search::{declaration_in, holds, is_free_to_leave, is_sourced};
 use arrayvec::ArrayVec;
 use bn_model::Owner;
@@ -103,6 +104,16 @@ impl Shadow {
         let decls = copy_of(&row.judged.decls);
         count_row(&mut self.counts, &decls);
         self.live.push(Owner { id: row.id, decls });
+    }
+
+    /// Takes out the declarations of a module that is evicted. Nothing changes where it isn't
+    /// entered.
+    pub fn drop_row(&mut self, row: &Row)
+        ensures live { self.new.live ≡ owners_without row.now.id.0 self.old.live }
+        ensures ram { self.new.ram ≡ self.old.ram }
+    {
+        discount(&mut self.counts, &self.live, row.id);
+        drop_owner(&mut self.live, row.id);
     }
 }
 

@@ -1,3 +1,4 @@
+pub mod EvictionLemmas
 pub mod MapSteps
 pub mod SearchLemmas
 pub mod TableLemmas

@@ -1,20 +1,25 @@
-ghost use Rattle.std.specs.Prelude.{◌≡◌, ℕ, ◌+◌, ◌<◌, ◌++◌, [], ◌∷◌, Some, length};
+ghost use Rattle.std.specs.Prelude.{◌≡◌, ℕ, ◌+◌, ◌<◌, ◌++◌, [], ◌∷◌, IfOk, Some, length};
 ghost use Rattle.std.specs.List.{list_any};
 ghost use Rattle.std.specs.Option.{option_copied};
+ghost use Rattle.bn_types.specs.declared.reg.Reg.{Reg};
 ghost use Rattle.bn_types.specs.declared.row_state.RowState.TheVariants.{Idle, Stopped};
 ghost use Rattle.bn_model.specs.Blanking.{blank_row};
+ghost use Rattle.bn_model.specs.Deciding.{decision_of_evict};
+ghost use Rattle.bn_model.specs.Evicting.{evicted_rows};
 ghost use Rattle.bn_model.specs.Launching.{has_identity, offerer};
 ghost use Rattle.bn_model.specs.Rows.{back_of, enclaves, new_row, row_of, saved_of, with_row};
 ghost use Rattle.bn_model.specs.Soundness.{caller_at, caller_if_some, state_at};
 ghost use Rattle.bn_model.specs.Switching.{id_of_row, row_after_answer, row_after_call};
 ghost use Rattle.bn_model.specs.Switching.{row_after_resume, row_after_return, row_after_stop};
 ghost use Rattle.bn_model.specs.Switching.{row_after_wait, stopped_at};
+ghost use Rattle.bn_table.specs.Evictions.{decision_of_answer, rows_after};
 ghost use Rattle.bn_table.specs.Tables.{IsAnswered, IsRunning, IsTable, MayCall, with_change};
 
 use crate::change::{Change, change_row};
+use crate::eviction::{refusal_of, take_chain};
 use crate::offers::offering_in;
 use crate::search::{is_known, row_in, stopped_in};
-use crate::{Left, Seat};
+use crate::{EvictRefused, Left, Seat};
 use arrayvec::ArrayVec;
 use bn_types::{Digest, Gpn, Judged, ModId, Mode, Rights, Row, RowState, SavedFrame, Vpn};
 use std::marker::Model;
@@ -218,6 +223,25 @@ impl Table {
         // For the prover: what holds of every table.
         self.facts();
         self.change(id, &Change::Blank);
+    }
+
+    /// Takes out the rows of a module that is evicted: its own, that of the module which waits for
+    /// it, and so on. They come in this order.
+    ///
+    /// Refused is first an id that no module has, then a module that runs or waits; nothing changes
+    /// then. Ids are not given anew.
+    pub fn evict(&mut self, id: ModId) -> Result<ArrayVec<Row, 15>, EvictRefused>
+        ensures answer { (rd : Reg) (count : ℕ) → decision_of_evict rd id.0 count
+            (row_of self.old.rows id.0) ≡ decision_of_answer rd id.0 count result }
+        ensures gone { IfOk result (λ gone. gone.items ≡ evicted_rows self.old.rows id.0) }
+        ensures table { self.new ≡ record self.old { rows = rows_after result self.old.rows } }
+    {
+        // For the prover: what holds of every table.
+        self.facts();
+        match refusal_of(row_in(&self.rows, id)) {
+            Some(refusal) => Err(refusal),
+            None => Ok(take_chain(&mut self.rows, id)),
+        }
     }
 
     fn change(&mut self, id: ModId, change: &Change)

@@ -1,4 +1,4 @@
-use crate::Table;
+use crate::{EvictRefused, Table};
 use arrayvec::ArrayVec;
 use bn_types::{Decl, Digest, Gpn, Judged, ModId, Mode, Rights, RowState, SavedFrame, Sort, Vpn};
 use std::test::Fail;
@@ -155,4 +155,53 @@ fn state_of(table: &Table, id: ModId) -> Option<RowState> {
         Some(row) => Some(row.state),
         None => None,
     }
+}
+
+/// A table where module 1 waits for module 2, which is stopped, and module 3 is idle.
+#[tactic(auto, unfolding(bn_model::specs::Rows::with_row))]
+fn chained() -> Table {
+    let mut table = Table::empty();
+    let first = table.add(offering());
+    let second = table.add(running());
+    table.add(offering());
+    let seat = table.enter(first, 0, ModId(0), SavedFrame::zero());
+    table.wait(seat, frame_at(0x7008), second);
+    let seat = table.enter(second, 0, first, SavedFrame::zero());
+    table.stop(seat, frame_at(0x9010));
+    table
+}
+
+#[test]
+fn a_waiting_caller_goes_with_a_stopped_module(rt: HostRuntime) -> Result<(), Fail> {
+    let mut table = chained();
+    assert!(rt; table.evict(ModId(1)).err() == Some(EvictRefused::Busy));
+    assert!(rt; table.evict(ModId(4)).err() == Some(EvictRefused::NoModule));
+    assert_eq!(rt; table.live(), 3);
+    let Ok(gone) = table.evict(ModId(2)) else {
+        panic!(rt; "the eviction is refused");
+    };
+    assert!(rt; gone.iter().map(|row| row.id.0).eq([2, 1]));
+    assert_eq!(rt; table.live(), 1);
+    assert!(rt; state_of(&table, ModId(3)) == Some(RowState::Idle));
+    assert_eq!(rt; table.next_id(), 4);
+    Ok(())
+}
+
+#[test]
+fn an_idle_module_goes_alone(rt: HostRuntime) -> Result<(), Fail> {
+    let mut table = chained();
+    let Ok(gone) = table.evict(ModId(3)) else {
+        panic!(rt; "the eviction is refused");
+    };
+    assert!(rt; gone.iter().map(|row| row.id.0).eq([3]));
+    assert!(rt; table.evict(ModId(3)).err() == Some(EvictRefused::NoModule));
+    assert_eq!(rt; table.live(), 2);
+    Ok(())
+}
+
+#[test]
+fn each_refused_eviction_has_its_code(rt: HostRuntime) -> Result<(), Fail> {
+    assert_eq!(rt; EvictRefused::NoModule.code(), -1);
+    assert_eq!(rt; EvictRefused::Busy.code(), -2);
+    Ok(())
 }

@@ -1,0 +1,5 @@
+mod codes;
+mod flat;
+mod launches;
+mod memory;
+mod rows;
