@@ -18,15 +18,14 @@ const HART_STATE_MANAGEMENT: u64 = 0x48534d;
 
 const SEND_IPI: u64 = 0x735049;
 
-/// What a call to the hypervisor asks for, by the caller's registers, the number of harts, from 1
-/// to 4, and which of them are started. What is told of harts that there aren't plays no part.
+/// What a call to the hypervisor asks for, by the caller's registers, the number of harts, at most
+/// 4, and which of them are started. What is told of harts that there aren't plays no part.
 ///
 /// Refused are, by the error in a0: a call that there isn't (-2), a number that is no hart's (-3),
 /// a start at an address that isn't a multiple of 4 (-5), the start of a hart that is started (-6).
 #[tactic(auto, unfolding(bn_model::specs::Hypervisor::ask_of))]
 pub fn ask(regs: &Regs, harts: u8, started: &[bool; 4]) -> SbiAsk
-    requires some { 1 ≤ harts }
-    requires few { harts ≤ 4 }
+    requires { harts ≤ 4 }
     ensures { result ≡ ask_of regs.now harts (take harts started.now) }
 {
     ask_by_number(&call_in(regs), harts, started)

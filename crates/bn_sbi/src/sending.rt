@@ -38,7 +38,7 @@ fn are_all_harts(harts: u8, mask: u64, base: u64) -> bool
 }
 
 /// The sum doesn't wrap.
-fn is_hart_or_unnamed(harts: u8, mask: u64, base: u64, i: u32) -> bool
+fn is_hart_or_unnamed(harts: u8, mask: u64, base: u64, i: u64) -> bool
     requires { i < 64 }
     ensures { result ≡ is_hart_if_named harts mask base i }
 {
@@ -62,14 +62,14 @@ fn named_harts(bits: u64, base: u64) -> u8
     )
 }
 
-fn is_named(bits: u64, base: u64, hart: u32) -> bool
+fn is_named(bits: u64, base: u64, hart: u64) -> bool
     requires { hart < 64 }
     ensures { result ≡ names_hart bits base hart }
 {
-    base <= hart as u64 && has_bit(bits, hart - base as u32)
+    base <= hart && has_bit(bits, hart - base)
 }
 
-fn has_bit(bits: u64, place: u32) -> bool
+fn has_bit(bits: u64, place: u64) -> bool
     requires { place < 64 }
     ensures { result ≡ is_set bits place }
 {

@@ -64,10 +64,11 @@ pub rows-after_call : (m : Tabled) (h id callee : ℕ) (frame : SavedFrame) → 
     → with_row callee (row_after_call h (record { 0 = id }) zero_frame)
     (with_row id (row_after_wait frame callee) m.rows) ≡ rows_after_call id h callee frame m.rows
 rows-after_call m h (suc c) callee frame table running = refl
-rows-after_call m h zero callee frame table running = absurd (by_row (row_of m.rows zero) refl) where
-  by_row : (found : Option Row) → row_of m.rows zero ≡ found → ⊥
-  by_row None is = runs-found m.rows zero running is
-  by_row (Some row) is = let between = (row_of-between m table zero row is).0 in omega arith
+rows-after_call m h zero callee frame table running =
+    absurd (by_row (row_of m.rows zero) refl) where
+      by_row : (found : Option Row) → row_of m.rows zero ≡ found → ⊥
+      by_row None is = runs-found m.rows zero running is
+      by_row (Some row) is = let between = (row_of-between m table zero row is).0 in omega arith
 
 -- ---- a return
 

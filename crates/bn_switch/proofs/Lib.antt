@@ -1,2 +1,3 @@
 pub mod HandoverLemmas
 pub mod IdBounds
+pub mod SeatLemmas

@@ -3,7 +3,7 @@ ghost use Rattle.std.specs.List.{list_any};
 ghost use Rattle.std.specs.Option.{option_copied};
 ghost use Rattle.bn_types.specs.declared.reg.Reg.{Reg};
 ghost use Rattle.bn_types.specs.declared.row_state.RowState.TheVariants.{Idle};
-ghost use Rattle.bn_model.specs.Deciding.{decision_of_call, is_entry, is_idle};
+ghost use Rattle.bn_model.specs.Deciding.{decision_of_call, is_entry};
 ghost use Rattle.bn_model.specs.Rows.{row_of};
 ghost use Rattle.bn_model.specs.Soundness.{state_at};
 ghost use Rattle.bn_model.specs.State.{hart_after_call};
@@ -17,11 +17,14 @@ use crate::{CallRefused, Context};
 use bn_table::Table;
 use bn_types::{ModId, Mode, Reg, Row, RowState};
 
-/// Calls the module of an id at an entry, on the hart. The caller gets its registers back with rd
-/// set to 0, at its next instruction; the callee gets a0 to a7 as they were, all other registers 0.
+/// Calls the module of an id at one of its entries, on the hart, both as the guest names them.
 ///
-/// A seat is that of a module that runs. The error is the first test that the call fails; then
-/// nothing changes.
+/// The caller, a module or the untrusted world, waits: its registers are kept with rd set to 0, to
+/// come back at its next instruction. The callee gets a0 to a7 as they were before, and 0 in all
+/// other registers.
+///
+/// `rd` is below 32, and a seat is that of a module that runs. The error is the first test that the
+/// call fails, with the context as it was; then nothing changes.
 pub fn call(
     table: &mut Table,
     here: Context,

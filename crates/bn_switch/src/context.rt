@@ -1,8 +1,8 @@
 use bn_table::Seat;
 use bn_types::{Mode, Regs};
 
-/// What of a hart is another's when another module runs on it. It must be used up, since a seat
-/// must be.
+/// What a hart hands over where another module goes on: registers, pc, mode and seat. It must be
+/// used up, as a seat must.
 pub struct Context {
     pub regs: Regs,
     /// The address of the next instruction, a multiple of 4.

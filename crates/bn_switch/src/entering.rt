@@ -1,7 +1,7 @@
 ghost use Rattle.std.specs.Prelude.{◌≡◌, ◌<◌, Some};
 ghost use Rattle.bn_types.specs.declared.row_state.RowState.TheVariants.{Idle};
 ghost use Rattle.bn_model.specs.Soundness.{state_at};
-ghost use Rattle.bn_model.specs.State.{hart_after_call, next_pc};
+ghost use Rattle.bn_model.specs.State.{hart_after_call};
 ghost use Rattle.bn_model.specs.Stepping.{frame_of_call};
 ghost use Rattle.bn_model.specs.Switching.{rows_after_call};
 ghost use Rattle.bn_switch.specs.Contexts.{IsSeated, StandsIn, hart_of, module_in};

@@ -12,8 +12,8 @@ use bn_types::ModId;
 
 /// Goes on with a stopped module on the hart: it gets its registers, pc and mode back.
 ///
-/// There must be no seat, and the module is stopped. `Table::stopped_at` finds it by its pc and
-/// mode, which are those of the context then.
+/// There is no seat, and the module is stopped. `Table::stopped_at` finds it by a pc and a mode; it
+/// gets those of its own frame here, also where the context has others.
 #[tactic(auto, using(crate::proofs::IdBounds::state_at_zero))]
 pub fn resume(table: &mut Table, here: Context, hart: u8, id: ModId) -> Context
     requires outside { here.seat ≡ None }

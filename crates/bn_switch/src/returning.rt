@@ -14,9 +14,9 @@ use bn_table::{Seat, Table};
 use bn_types::SavedFrame;
 
 /// Returns from the module that runs to its caller, on the hart: the module is idle, and the caller
-/// gets back what was kept of it, with a0 and a1 of the module.
+/// goes on with the registers, pc and mode that were kept of it, but with a0 and a1 of the module.
 ///
-/// There must be a seat, that of a module that runs.
+/// There is a seat, that of a module that runs.
 pub fn ret(table: &mut Table, here: Context, hart: u8) -> Context
     requires { HasSeat table.old.rows here.seat }
     ensures context { let m = module_in here.seat in

@@ -8,10 +8,11 @@ use crate::Context;
 use bn_table::Table;
 use bn_types::{Regs, SavedFrame};
 
-/// Stops the module that runs: its registers, pc and mode go to its row, and the untrusted world
-/// stands there with all registers 0.
+/// Stops the module that runs: its registers, pc and mode are kept in its row, and the untrusted
+/// world has the hart, with all registers 0. Its pc and mode are still the module's, for the trap
+/// that follows.
 ///
-/// There must be a seat, that of a module that runs.
+/// There is a seat, that of a module that runs.
 pub fn stop(table: &mut Table, here: Context) -> Context
     requires { HasSeat table.old.rows here.seat }
     ensures context { StandsIn result (hart_after_stop (hart_of here)) }

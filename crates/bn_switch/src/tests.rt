@@ -1,4 +1,4 @@
-ghost use Rattle.std.specs.Prelude.{◌≡◌, ◌^◌, ◌<◌, None, Some, length, true};
+ghost use Rattle.std.specs.Prelude.{◌≡◌, ◌^◌, ◌<◌, None, Some, true};
 ghost use Rattle.bn_types.specs.declared.row_state.RowState.TheVariants.{Stopped};
 ghost use Rattle.bn_model.specs.Soundness.{state_at};
 ghost use Rattle.bn_switch.specs.Contexts.{IsSeated};

@@ -1,4 +1,4 @@
-use Rattle.std.proofs.Common.{ap, subst, List}
+use Rattle.std.proofs.Common.{◌∙◌, ap, subst, List}
 use Rattle.bn_types.specs.declared.row.Row.{Row}
 use Rattle.bn_model.specs.Soundness.{state_at}
 use Rattle.bn_table.specs.Tables.{IsRunning}
@@ -22,6 +22,7 @@ pub returns-in-Some-clause-table : goal.returns-in-Some-clause-table
 returns-in-Some-clause-table c =
     let running : IsRunning (state_at c.args.table.now.rows c.in-Some.seat.0) =
     subst (IsSeated c.args.table.now.rows) c.in-Some.is c.requires.seated in
-    rw (c.enter-in-Some.ensures.table, c.wait.ensures, c.id-caller.ensures, c.zero.ensures, c.in-Some.is)
+    c.enter-in-Some.ensures.table
+    ∙ rw (c.wait.ensures, c.id-caller.ensures, c.zero.ensures, c.in-Some.is)
     (ap (λ (rows : List Row). record c.args.table.now { rows = rows })
     (rows-after_call c.args.table.now _ _ _ _ c.facts.ensures running))
