@@ -5,7 +5,7 @@ import subprocess
 import tempfile
 import textwrap
 
-from interpreter import LAUNCHED, Machine
+from interpreter import UNBUILT, Machine
 
 HERE = pathlib.Path(__file__).resolve().parent
 TESTS = HERE.parent / "crates" / "bn_machine" / "src" / "tests"
@@ -14,13 +14,17 @@ PREFIX = "riscv64-unknown-elf-"
 # and the test's name
 FOLDERS = {
     "launches": (
-        LAUNCHED,
+        UNBUILT,
         "Guests that launch modules: what a module is known by, and each refusal in its order.",
         "modules_are_launched_or_refused"),
     "owned_pages": (
-        LAUNCHED,
+        UNBUILT,
         "Guests that reach for the pages of modules, as programs and by their page tables.",
         "pages_of_modules_are_their_own"),
+    "switches": (
+        UNBUILT,
+        "Guests that call modules, whose modules call and return, are stopped and go on.",
+        "modules_are_called_stopped_and_resumed"),
 }
 # a folder of guests of parts that the emulator doesn't have yet
 LATER = "later"
@@ -57,7 +61,8 @@ def listed(image):
                     "--adjust-vma=0x80000000", "-z", file.name)
     found = {int(at, 16): line for at, line in re.findall(r"^ *([0-9a-f]+):\t[0-9a-f]+ *\t(.*)$", text, re.M)}
     # a word that doesn't end in bits 11 would be two compressed instructions, which the machine doesn't have
-    lines = [found[0x80000000 + at] if image[at] & 3 == 3 else "no instruction" for at in range(0, len(image), 4)]
+    lines = [found.get(0x80000000 + at, "no instruction") if image[at] & 3 == 3 else "no instruction"
+             for at in range(0, len(image), 4)]
     return [re.sub(r"\t", " ", line).split(" #")[0].replace("unimp", "csrrw x0,cycle,x0").strip() for line in lines]
 
 

@@ -4,13 +4,10 @@ checks of this folder use it: one hart, a raw image, and the parts that the emul
 from machine import csrs, instructions, memory, running, state
 from machine.values import FETCH, MASK, PAGE, RAM, Unbuilt, signed
 
-__all__ = ["FETCH", "LAUNCHED", "MASK", "RAM", "UNBUILT", "Machine", "signed"]
+__all__ = ["FETCH", "MASK", "RAM", "UNBUILT", "Machine", "signed"]
 
 # what the emulator doesn't have yet; a run that comes to it ends with `unbuilt`
-UNBUILT = frozenset(("launch", "call", "evict", "ident", "timer", "getchar", "hart_start",
-                     "send_ipi"))
-# what it will not have when it launches modules
-LAUNCHED = UNBUILT - {"launch"}
+UNBUILT = frozenset(("evict", "sset"))
 
 
 class Machine:

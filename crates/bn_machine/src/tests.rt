@@ -28,6 +28,7 @@ mod roots;
 mod secure_words;
 mod sizes;
 mod superpages;
+mod switches;
 mod top;
 mod trap_values;
 mod upper_half;
