@@ -54,15 +54,17 @@ def assembled_text(text):
 
 def listed(image):
     """The disassembly of code at the start of RAM, a text a word."""
+    # a word whose low five bits are set would begin a longer instruction
+    is_short = [image[at] & 3 == 3 and image[at] & 31 != 31 for at in range(0, len(image), 4)]
+    short = b"".join(image[4 * i:4 * i + 4] if is_one else bytes(4) for i, is_one in enumerate(is_short))
     with tempfile.NamedTemporaryFile(suffix=".img") as file:
-        file.write(image)
+        file.write(short)
         file.flush()
         text = tool("objdump", "-D", "-b", "binary", "-m", "riscv:rv64", "-M", "no-aliases,numeric",
                     "--adjust-vma=0x80000000", "-z", file.name)
     found = {int(at, 16): line for at, line in re.findall(r"^ *([0-9a-f]+):\t[0-9a-f]+ *\t(.*)$", text, re.M)}
     # a word that doesn't end in bits 11 would be two compressed instructions, which the machine doesn't have
-    lines = [found.get(0x80000000 + at, "no instruction") if image[at] & 3 == 3 else "no instruction"
-             for at in range(0, len(image), 4)]
+    lines = [found[0x80000000 + 4 * i] if is_one else "no instruction" for i, is_one in enumerate(is_short)]
     return [re.sub(r"\t", " ", line).split(" #")[0].replace("unimp", "csrrw x0,cycle,x0").strip() for line in lines]
 
 

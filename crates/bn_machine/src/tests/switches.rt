@@ -472,7 +472,7 @@ const ILLEGAL_CODE: [u32; 49] = [
     0x0003028b, // b.launch x5,x6
     0x0003328b, // b.evict x5,x6
     0x00000000, // no instruction
-    0xffffffff, // .2byte 0xffff
+    0xffffffff, // no instruction
 ];
 
 const ILLEGAL_TABLES: [(usize, u64); 13] = [
