@@ -1,6 +1,6 @@
-/* A kernel that launches a module. It reads the module's secret before, launches the module, is refused a
-   second launch, since the pages are a module's by then, and reads the secret again. That load is denied: it
-   traps, and the handler shuts down. */
+/* A kernel that launches a module. It reads the module's secret before, launches the module, is
+   refused a second launch, since the pages are a module's by then, and reads the secret again. That
+   load is denied: it traps, and the handler shuts down. */
 
 #include "secure.h"
 #include "template/guest.h"

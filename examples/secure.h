@@ -1,13 +1,13 @@
-/* The secure instructions, by names, for sources in C and in assembly, and the text of a segment, from
-   which a module is launched. docs/guest.md says what each does. */
+/* The secure instructions, by names, for sources in C and in assembly, and the text of a segment,
+   from which a module is launched. docs/guest.md says what each does. */
 
 #ifndef SECURE_H
 #define SECURE_H
 
 #ifdef __ASSEMBLER__
 
-/* The assembler knows no b.launch, so these macros spell the instructions of opcode custom-0 by their
-   fields: funct3, funct7, rd, rs1, rs2. */
+/* The assembler knows no b.launch, so these macros spell the instructions of opcode custom-0 by
+   their fields: funct3, funct7, rd, rs1, rs2. */
         .macro  b.launch rd, text
         .insn   r 0x0b, 0, 0, \rd, \text, x0
         .endm
@@ -45,9 +45,9 @@ enum { SEGMENT_PRIVATE = 1, SEGMENT_OFFER = 2, SEGMENT_ACCEPT = 3 };
 enum { SEGMENT_LOAD = 1 << 0, SEGMENT_STORE = 1 << 1, SEGMENT_FETCH = 1 << 2 };
 enum { SEGMENT_ENTRIES = 8, SEGMENT_PAGES = 64, SEGMENT_PARTNERS = 4 };
 
-/* A page that the module declares. Virtual pages ascend. A private page's rights are LOAD, LOAD and STORE,
-   FETCH, LOAD and FETCH, or all three, another's LOAD, or LOAD and STORE. Bit i of an offer's mask names
-   partner i; other pages have the mask 0. */
+/* A page that the module declares. Virtual pages ascend. A private page's rights are LOAD, LOAD and
+   STORE, FETCH, LOAD and FETCH, or all three, another's LOAD, or LOAD and STORE. Bit i of an
+   offer's mask names partner i; other pages have the mask 0. */
 struct segment_page {
     unsigned long virtual_page; /* the address without its low 12 bits, divided by 4,096 */
     unsigned char sort;
@@ -56,8 +56,8 @@ struct segment_page {
     unsigned char zeros[5];
 };
 
-/* What isn't used is zero. An entry is a multiple of 4 in a private page with FETCH. A partner is the
-   identity of a module. */
+/* What isn't used is zero. An entry is a multiple of 4 in a private page with FETCH. A partner is
+   the identity of a module. */
 struct segment {
     unsigned char magic[4];
     unsigned char version;
@@ -79,9 +79,9 @@ struct segment {
 
 _Static_assert(sizeof(struct segment_page) == 16, "a page takes 16 bytes of the text");
 _Static_assert(__builtin_offsetof(struct segment_page, sort) == 8, "behind the virtual page");
-_Static_assert(__builtin_offsetof(struct segment_page, zeros) == 11, "behind sort, rights and mask");
+_Static_assert(__builtin_offsetof(struct segment_page, zeros) == 11, "behind the mask");
 _Static_assert(sizeof(struct segment) == 1232, "a text has 1,232 bytes");
-_Static_assert(__builtin_offsetof(struct segment, mode) == 5, "behind the magic and the version");
+_Static_assert(__builtin_offsetof(struct segment, mode) == 5, "behind magic and version");
 _Static_assert(__builtin_offsetof(struct segment, partner_count) == 8, "the last of the numbers");
 _Static_assert(__builtin_offsetof(struct segment, entries) == 16, "behind the head");
 _Static_assert(__builtin_offsetof(struct segment, pages) == 80, "behind 8 entries");
@@ -112,7 +112,12 @@ enum launch_refusal {
     LAUNCH_SEGMENT_PADDING = -26,
 };
 
-enum call_refusal { CALL_NO_MODULE = -1, CALL_NOT_ENTRY = -2, CALL_MODE_DIFFERS = -3, CALL_BUSY = -4 };
+enum call_refusal {
+    CALL_NO_MODULE = -1,
+    CALL_NOT_ENTRY = -2,
+    CALL_MODE_DIFFERS = -3,
+    CALL_BUSY = -4,
+};
 enum evict_refusal { EVICT_NO_MODULE = -1, EVICT_BUSY = -2 };
 enum sset_refusal { SSET_BAD_INDEX = -1, SSET_FULL = -2 };
 
@@ -136,9 +141,10 @@ static inline long evict_module(unsigned long id)
 
 /* ---- b.call and b.ident, of all */
 
-/* Calls a module at one of its entries, with a0 and a1, and with 0 in a2 to a7. Gives 0, and in a0 and a1
-   what the module left there, or a refusal, and a0 and a1 as they were. */
-static inline long call_module(unsigned long id, unsigned long entry, unsigned long *a0, unsigned long *a1)
+/* Calls a module at one of its entries, with a0 and a1, and with 0 in a2 to a7. Gives 0, and in a0
+   and a1 what the module left there, or a refusal, and a0 and a1 as they were. */
+static inline long call_module(unsigned long id, unsigned long entry, unsigned long *a0,
+                               unsigned long *a1)
 {
     register unsigned long first asm("a0") = *a0;
     register unsigned long second asm("a1") = *a1;
@@ -151,15 +157,16 @@ static inline long call_module(unsigned long id, unsigned long entry, unsigned l
     long refusal;
     asm volatile(".insn r 0x0b, 1, 0, %0, %3, %4"
                  : "=r"(refusal), "+r"(first), "+r"(second)
-                 : "r"(id), "r"(entry), "r"(third), "r"(fourth), "r"(fifth), "r"(sixth), "r"(seventh),
-                   "r"(eighth)
+                 : "r"(id), "r"(entry), "r"(third), "r"(fourth), "r"(fifth), "r"(sixth),
+                   "r"(seventh), "r"(eighth)
                  : "memory");
     *a0 = first;
     *a1 = second;
     return refusal;
 }
 
-/* Word 0 to 3 of a live module's identity, whose bytes they are, little endian; 0 where there is none. */
+/* Word 0 to 3 of a live module's identity, whose bytes they are, little endian; 0 where there is
+   none. */
 static inline unsigned long identity_word(unsigned long id, unsigned long word)
 {
     unsigned long value;
@@ -170,7 +177,8 @@ static inline unsigned long identity_word(unsigned long id, unsigned long word)
 /* ---- b.ret, b.caller, b.offerer, b.sget and b.sset, of modules */
 
 /* a0 and a1 go to the caller as they are; its other registers are as they were when it called. */
-static inline void __attribute__((noreturn)) return_to_caller(unsigned long a0, unsigned long a1)
+static inline void __attribute__((noreturn))
+return_to_caller(unsigned long a0, unsigned long a1)
 {
     register unsigned long first asm("a0") = a0;
     register unsigned long second asm("a1") = a1;
