@@ -1,6 +1,6 @@
-/* A kernel that launches the module of counter_module.c, and calls it. Each call counts. Then the kernel stores
-   to the counter, which is denied, calls the module where it has no entry, which is refused, and asks for the
-   count: it is as the module left it. */
+/* A kernel that launches the module of counter_module.c, and calls it. Each call counts. Then the
+   kernel stores to the counter, which is denied, calls the module where it has no entry, which is
+   refused, and asks for the count: it is as the module left it. */
 
 #include "secure.h"
 #include "template/guest.h"
@@ -33,8 +33,8 @@ const SEGMENT_TEXT segment = {
     },
 };
 
-/* The denied store is passed over. A trap while a module runs would leave 0 in sp, and no stack for start.S;
-   this module doesn't trap, and this kernel has no interrupts. */
+/* The denied store is passed over. A trap while a module runs would leave 0 in sp, and no stack for
+   start.S; this module doesn't trap, and this kernel has no interrupts. */
 void handle_trap(struct frame *frame)
 {
     (void)frame;

@@ -1,5 +1,5 @@
-/* A module that counts. Its counter is in a page of its own, so nobody changes it but these functions, which
-   counter_entries_module.S makes its entries. */
+/* A module that counts. Its counter is in a page of its own, so nobody changes it but these
+   functions, which counter_entries_module.S makes its entries. */
 
 unsigned long counter;
 
