@@ -944,6 +944,47 @@ const UNMAPPED_ENTRY_LINES: [&str; 7] = [
     "end 35 shutdown f9741e0f703bdd8cd5eda696f6f7ca7d987c0a0448d876773d0810797f7f1504\n",
 ];
 
+// Mode U may use b.call, and is refused as there is no such module.
+const USER_CALL_CODE: [u32; 7] = [
+    0x00000417, // auipc x8,0x0
+    0x00000297, // auipc x5,0x0
+    0x01028293, // addi x5,x5,16
+    0x14129073, // csrrw x0,sepc,x5
+    0x10200073, // sret
+    0x0073128b, // b.call x5,x6,x7
+    0x00000073, // ecall
+];
+
+const USER_CALL_TABLES: [(usize, u64); 0] = [];
+
+const USER_CALL_LINES: [&str; 5] = [
+    "refuse 5 0 call -1\n",
+    "trap 6 0 0000000000000008 0000000080000018\n",
+    "trap 7 0 0000000000000001 0000000000000000\n",
+    "trap 8 0 0000000000000001 0000000000000000\n",
+    "end 9 limit 4be4c08e061e14e48132a0cc76cff5f57ad695eeb674470027c23f1c25600e42\n",
+];
+
+// Mode U may use b.ident, and gets 0 as there is no such module.
+const USER_IDENT_CODE: [u32; 7] = [
+    0x00000417, // auipc x8,0x0
+    0x00000297, // auipc x5,0x0
+    0x01028293, // addi x5,x5,16
+    0x14129073, // csrrw x0,sepc,x5
+    0x10200073, // sret
+    0x0073428b, // b.ident x5,x6,x7
+    0x00000073, // ecall
+];
+
+const USER_IDENT_TABLES: [(usize, u64); 0] = [];
+
+const USER_IDENT_LINES: [&str; 4] = [
+    "trap 6 0 0000000000000008 0000000080000018\n",
+    "trap 7 0 0000000000000001 0000000000000000\n",
+    "trap 8 0 0000000000000001 0000000000000000\n",
+    "end 9 limit 5f3462e9baee37815542e46c109e0efb60261d52725e5e478e3e59493a27674e\n",
+];
+
 // A stopped module is resumed at its pc, in its mode, by its page at the page's own address, and
 // not otherwise: elsewhere the fetch is denied, and another page there is just executed.
 const WRONG_RESUMPTION_CODE: [u32; 96] = [
@@ -1089,7 +1130,7 @@ const WRONG_RESUMPTION_LINES: [&str; 17] = [
     "end 117 shutdown f710794b7c9fbac4722b8353a24cb31b7604a68d2be2557eebe6eac43a24b941\n",
 ];
 
-const GUESTS: [Guest<'static>; 11] = [
+const GUESTS: [Guest<'static>; 13] = [
     Guest {
         code: &ACCEPTED_CODE,
         tables: &ACCEPTED_TABLES,
@@ -1149,6 +1190,18 @@ const GUESTS: [Guest<'static>; 11] = [
         tables: &UNMAPPED_ENTRY_TABLES,
         steps: 60_000,
         lines: &UNMAPPED_ENTRY_LINES,
+    },
+    Guest {
+        code: &USER_CALL_CODE,
+        tables: &USER_CALL_TABLES,
+        steps: 9,
+        lines: &USER_CALL_LINES,
+    },
+    Guest {
+        code: &USER_IDENT_CODE,
+        tables: &USER_IDENT_TABLES,
+        steps: 9,
+        lines: &USER_IDENT_LINES,
     },
     Guest {
         code: &WRONG_RESUMPTION_CODE,
