@@ -421,6 +421,111 @@ const CALL_REFUSALS_LINES: [&str; 14] = [
     "end 66 shutdown 62e39c0b5a57793ba24db0d798c50acf91946a90cab038a5aa48a88b964fa707\n",
 ];
 
+// What the calls to the hypervisor leave with one hart: the timer, which keeps a1; a key, of which
+// none waits; the start of a hart, refused as it is no hart, at no multiple of 4, or started; and
+// software interrupts, which come to hart 0 by its number and by all harts, and to no other.
+const HYPERVISOR_CODE: [u32; 93] = [
+    0x00000813, // addi x16,x0,0
+    0x000008b7, // lui x17,0x0
+    0x00088893, // addi x17,x17,0
+    0xfff00513, // addi x10,x0,-1
+    0x00700593, // addi x11,x0,7
+    0x00000073, // ecall
+    0x00000f93, // addi x31,x0,0
+    0x15f51263, // bne x10,x31,0x80000160
+    0x00700f93, // addi x31,x0,7
+    0x13f59e63, // bne x11,x31,0x80000160
+    0x000008b7, // lui x17,0x0
+    0x00288893, // addi x17,x17,2
+    0x00900513, // addi x10,x0,9
+    0x00700593, // addi x11,x0,7
+    0x00000073, // ecall
+    0xfff00f93, // addi x31,x0,-1
+    0x13f51063, // bne x10,x31,0x80000160
+    0x00700f93, // addi x31,x0,7
+    0x11f59c63, // bne x11,x31,0x80000160
+    0x004858b7, // lui x17,0x485
+    0x34d88893, // addi x17,x17,845
+    0x00100513, // addi x10,x0,1
+    0x00000593, // addi x11,x0,0
+    0x00000073, // ecall
+    0xffd00f93, // addi x31,x0,-3
+    0x0ff51e63, // bne x10,x31,0x80000160
+    0x00000f93, // addi x31,x0,0
+    0x0ff59a63, // bne x11,x31,0x80000160
+    0x004858b7, // lui x17,0x485
+    0x34d88893, // addi x17,x17,845
+    0x00000513, // addi x10,x0,0
+    0x00200593, // addi x11,x0,2
+    0x00000073, // ecall
+    0xffb00f93, // addi x31,x0,-5
+    0x0df51c63, // bne x10,x31,0x80000160
+    0x004858b7, // lui x17,0x485
+    0x34d88893, // addi x17,x17,845
+    0x00000513, // addi x10,x0,0
+    0x00400593, // addi x11,x0,4
+    0x00000073, // ecall
+    0xffa00f93, // addi x31,x0,-6
+    0x0bf51e63, // bne x10,x31,0x80000160
+    0x007358b7, // lui x17,0x735
+    0x04988893, // addi x17,x17,73
+    0x00200513, // addi x10,x0,2
+    0x00000593, // addi x11,x0,0
+    0x00000073, // ecall
+    0xffd00f93, // addi x31,x0,-3
+    0x0bf51063, // bne x10,x31,0x80000160
+    0x144022f3, // csrrs x5,sip,x0
+    0x00000f93, // addi x31,x0,0
+    0x09f29a63, // bne x5,x31,0x80000160
+    0x007358b7, // lui x17,0x735
+    0x04988893, // addi x17,x17,73
+    0x00100513, // addi x10,x0,1
+    0x00000593, // addi x11,x0,0
+    0x00000073, // ecall
+    0x00000f93, // addi x31,x0,0
+    0x07f51c63, // bne x10,x31,0x80000160
+    0x00000f93, // addi x31,x0,0
+    0x07f59863, // bne x11,x31,0x80000160
+    0x144022f3, // csrrs x5,sip,x0
+    0x00200f93, // addi x31,x0,2
+    0x07f29263, // bne x5,x31,0x80000160
+    0x14401073, // csrrw x0,sip,x0
+    0x007358b7, // lui x17,0x735
+    0x04988893, // addi x17,x17,73
+    0x00000513, // addi x10,x0,0
+    0xfff00593, // addi x11,x0,-1
+    0x00000073, // ecall
+    0x00000f93, // addi x31,x0,0
+    0x05f51263, // bne x10,x31,0x80000160
+    0x144022f3, // csrrs x5,sip,x0
+    0x00200f93, // addi x31,x0,2
+    0x03f29c63, // bne x5,x31,0x80000160
+    0x14401073, // csrrw x0,sip,x0
+    0x00100813, // addi x16,x0,1
+    0x007358b7, // lui x17,0x735
+    0x04988893, // addi x17,x17,73
+    0x00100513, // addi x10,x0,1
+    0x00000593, // addi x11,x0,0
+    0x00000073, // ecall
+    0xffe00f93, // addi x31,x0,-2
+    0x01f51a63, // bne x10,x31,0x80000160
+    0x144022f3, // csrrs x5,sip,x0
+    0x00000f93, // addi x31,x0,0
+    0x01f29463, // bne x5,x31,0x80000160
+    0x0100006f, // jal x0,0x8000016c
+    0x02100513, // addi x10,x0,33
+    0x00100893, // addi x17,x0,1
+    0x00000073, // ecall
+    0x00800893, // addi x17,x0,8
+    0x00000073, // ecall
+];
+
+const HYPERVISOR_TABLES: [(usize, u64); 0] = [];
+
+const HYPERVISOR_LINES: [&str; 1] = [
+    "end 90 shutdown 91fa5a6088c6eec49c5f1c60e22daa13b821a324514d57027f808bd1fb2068fe\n",
+];
+
 // What a module may not execute: every SYSTEM instruction, launch, evict, and words that are none.
 // Each is tried by a module of its own.
 const ILLEGAL_CODE: [u32; 49] = [
@@ -1130,7 +1235,7 @@ const WRONG_RESUMPTION_LINES: [&str; 17] = [
     "end 117 shutdown f710794b7c9fbac4722b8353a24cb31b7604a68d2be2557eebe6eac43a24b941\n",
 ];
 
-const GUESTS: [Guest<'static>; 13] = [
+const GUESTS: [Guest<'static>; 14] = [
     Guest {
         code: &ACCEPTED_CODE,
         tables: &ACCEPTED_TABLES,
@@ -1154,6 +1259,12 @@ const GUESTS: [Guest<'static>; 13] = [
         tables: &CALL_REFUSALS_TABLES,
         steps: 60_000,
         lines: &CALL_REFUSALS_LINES,
+    },
+    Guest {
+        code: &HYPERVISOR_CODE,
+        tables: &HYPERVISOR_TABLES,
+        steps: 60_000,
+        lines: &HYPERVISOR_LINES,
     },
     Guest {
         code: &ILLEGAL_CODE,
