@@ -1,12 +1,12 @@
 -- Harts that go from one context to another, over the machine's parts.
-use Rattle.std.proofs.Common.{◌≡◌, ◌≢◌, ℕ, zero, suc, ◌+◌, ◌<◌, ◌==◌, ◌&&◌, ◌++◌, Bool, true, false, List, []}
+use Rattle.std.proofs.Common.{◌≡◌, ◌≢◌, ℕ, zero, suc, ◌<◌, ◌==◌, ◌&&◌, ◌++◌, Bool, true, false}
+use Rattle.std.proofs.Common.{List, []}
 use Rattle.std.proofs.Common.{◌∷◌, length, find, cond, Option, Some, None, inl, inr, refl, sym, ap}
 use Rattle.std.proofs.Common.{subst, ◌∙◌, arith, eq-eqb, ne_eqb}
 use Rattle.std.proofs.lemmas.List.{append-nil, append_assoc, get_or-set_same, set-get_or}
 use Rattle.std.proofs.lemmas.List.{set-set}
 use Rattle.std.proofs.lemmas.Option.{none-some, same_Some}
 use Rattle.std.specs.List.{list_any}
-use Rattle.std.specs.Prelude.{slice_set}
 use Rattle.bn_types.specs.declared.cause.Cause.{Cause}
 use Rattle.bn_types.specs.declared.line.Line.{Line}
 use Rattle.bn_types.specs.declared.line.Line.TheVariants as line
@@ -19,8 +19,8 @@ use Rattle.bn_types.specs.declared.row_state.RowState.TheVariants.{Idle, Running
 use Rattle.bn_types.specs.declared.saved_frame.SavedFrame.{SavedFrame}
 use Rattle.bn_model.specs.Deciding.{caller_of}
 use Rattle.bn_model.specs.Decision.{Call, Return, Resume, Trap}
-use Rattle.bn_model.specs.Rows.{enclaves, has_id, owners, row_of, saved_of, with_row}
-use Rattle.bn_model.specs.Soundness.{Ascend, Has, IsSound, state_at, state_if_some}
+use Rattle.bn_model.specs.Rows.{enclaves, owners, row_of, saved_of, with_row}
+use Rattle.bn_model.specs.Soundness.{Ascend, Has, state_at, state_if_some}
 use Rattle.bn_model.specs.Spelling.{spelling, text_of}
 use Rattle.bn_model.specs.State.{Hart, State, frame_of, hart_after_call, hart_after_resume, hart_at}
 use Rattle.bn_model.specs.State.{hart_after_return, hart_after_stop, hart_after_trap, one_more}
