@@ -152,8 +152,6 @@ def test_name(name):
         "trap_values": "stval_by_cause",
         "calls": "what_calls_leave",
         "upper_half": "the_upper_half_of_addresses",
-        "user_ident": "user_mode_may_ask_for_an_identity",
-        "user_call": "user_mode_may_call_a_module",
         "secure_words": "what_a_mode_may_not_execute",
     }[name]
 

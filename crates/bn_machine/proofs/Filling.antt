@@ -5,7 +5,7 @@ use Rattle.std.proofs.Common.{Some, None, refl, sym, ap, ◌∙◌, arith, add-o
 use Rattle.std.proofs.lemmas.List.{append_assoc, length-append, length-take-le, length-drop}
 use Rattle.std.proofs.lemmas.List.{length-replicate, set-set, get_or-set_same, get_or-drop}
 use Rattle.std.proofs.lemmas.List.{get_or-replicate, get_or-append_right}
-use Rattle.std.proofs.lemmas.List.{replicate-append-replicate, append-nil}
+use Rattle.std.proofs.lemmas.List.{replicate-append-replicate}
 use Rattle.std.proofs.lemmas.Bool.{cases_eq}
 use Rattle.std.proofs.lemmas.List.FromFn.{length-map-range_with_len, get_or-map-range_with_len}
 use Rattle.bn_types.specs.Numbers.{AreWhole, with_number, zero_page}

@@ -1,5 +1,5 @@
 -- Lists of at most four harts.
-use Rattle.std.proofs.Common.{◌≡◌, ℕ, ◌<◌, ◌≤◌, List, [], ◌∷◌, length, map, take, refl, arith}
+use Rattle.std.proofs.Common.{◌≡◌, ℕ, ◌≤◌, List, [], ◌∷◌, length, map, take, refl, arith}
 use Rattle.bn_model.specs.Deciding.{is_started}
 use Rattle.bn_model.specs.Each.{each}
 use Rattle.bn_model.specs.State.{Hart, hart_in}

@@ -1,6 +1,6 @@
 -- The identity of a module, by its row.
-use Rattle.std.proofs.Common.{◌≡◌, ℕ, Bool, true, false, List, [], ◌∷◌, cond, find, map, Option, Some}
-use Rattle.std.proofs.Common.{None, refl, ap, ◌∙◌, option_map}
+use Rattle.std.proofs.Common.{◌≡◌, ℕ, List, Option}
+use Rattle.std.proofs.Common.{refl, ap, option_map}
 use Rattle.bn_types.specs.declared.row.Row.{Row}
 use Rattle.bn_model.specs.Deciding.{enclave_at, identity_word, is_enclave}
 use Rattle.bn_model.specs.Rows.{Enclave, enclave_of, enclaves, has_id, row_of}

@@ -1,6 +1,6 @@
 -- Launches over the machine's parts.
-use Rattle.std.proofs.Common.{◌≡◌, ℕ, zero, suc, ◌+◌, ◌^◌, ◌<◌, ◌≤◌, ◌==◌, Bool, true, false, List, [], ◌∷◌, ◌++◌}
-use Rattle.std.proofs.Common.{map, length, find, slice_get, Option, Some, None, Result, Ok, Err}
+use Rattle.std.proofs.Common.{◌≡◌, ℕ, zero, suc, ◌+◌, ◌^◌, ◌<◌, ◌≤◌, Bool, List, [], ◌∷◌, ◌++◌}
+use Rattle.std.proofs.Common.{length, slice_get, Option, Some, None, Result, Ok}
 use Rattle.std.proofs.Common.{refl, sym, ap, ap₂, subst, cond, ◌∙◌, arith, eq-eqb, ne_eqb}
 use Rattle.std.proofs.lemmas.List.Elements.{All-cons, All-nil}
 use Rattle.std.specs.List.{All}
@@ -15,7 +15,7 @@ use Rattle.bn_model.specs.declared.owner.Owner.{Owner}
 use Rattle.bn_model.specs.Launching.{judgement}
 use Rattle.bn_model.specs.Memory.{visible}
 use Rattle.bn_model.specs.Refusals.{launch_code, minus, seg_fault_number}
-use Rattle.bn_model.specs.Rows.{enclaves, has_id, new_row, owner_of, owners, row_of}
+use Rattle.bn_model.specs.Rows.{enclaves, new_row, owner_of, owners, row_of}
 use Rattle.bn_model.specs.Soundness.{Ascend, GuestPagesDiffer, IsSound}
 use Rattle.bn_model.specs.State.{State, memory}
 use Rattle.bn_model.proofs.JudgedLemmas.{all-got, seen-page}
@@ -104,7 +104,8 @@ pub owners_more : (rows : List Row) (row : Row)
     → owners (rows ++ row ∷ []) ≡ owners rows ++ owner_of row ∷ []
 unfolding owners
 owners_more [] row = refl
-owners_more (first ∷ rows) row = ap (λ (os : List Owner). owner_of first ∷ os) (owners_more rows row)
+owners_more (first ∷ rows) row = ap (λ (os : List Owner). owner_of first ∷ os) (owners_more rows
+    row)
 
 -- ---- codes
 

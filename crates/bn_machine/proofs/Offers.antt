@@ -1,9 +1,7 @@
 -- What a module declares, by its row.
-use Rattle.std.proofs.Common.{◌≡◌, ◌≢◌, ℕ, zero, suc, List, find, Option, Some, None, is_some, refl, ap}
+use Rattle.std.proofs.Common.{◌≡◌, ◌≢◌, ℕ, zero, suc, List, Option, Some, None, is_some, refl, ap}
 use Rattle.std.proofs.Common.{option_map, ◌∙◌}
-use Rattle.bn_types.specs.declared.decl.Decl.{Decl}
 use Rattle.bn_types.specs.declared.row.Row.{Row}
-use Rattle.bn_model.specs.declared.owner.Owner.{Owner}
 use Rattle.bn_model.specs.Admission.{declaration, declared_by}
 use Rattle.bn_model.specs.Owners.{is_live, is_module}
 use Rattle.bn_model.specs.Rows.{has_id, owner_of, owners, row_of}
@@ -11,7 +9,8 @@ use Rattle.bn_model.proofs.RowLemmas.{is_live-row_of}
 use Rattle.bn_model.proofs.TestLemmas.{find-map}
 use Rattle.bn_machine.specs.Acts.{decl_in_row}
 
-by-row : (vpn : ℕ) (row : Option Row) → declared_by vpn (option_map owner_of row) ≡ decl_in_row vpn row
+by-row : (vpn : ℕ) (row : Option Row)
+    → declared_by vpn (option_map owner_of row) ≡ decl_in_row vpn row
 by-row vpn None = refl
 by-row vpn (Some row) = refl
 

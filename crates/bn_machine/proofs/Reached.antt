@@ -1,7 +1,8 @@
 -- The states that the run of a call reaches.
-use Rattle.std.proofs.Common.{◌≡◌, ℕ, zero, suc, ◌+◌, ◌-◌, ◌*◌, ◌^◌, ◌<◌, ◌≤◌, ◌==◌, ◌&&◌, ◌⊎◌, ◌++◌}
-use Rattle.std.proofs.Common.{Bool, true, false, nat_eq, nat_le, nat_lt, List, [], ◌∷◌, length, replicate}
-use Rattle.std.proofs.Common.{Option, Some, None, inl, inr, refl, sym, ap, subst, ◌∙◌, arith, leb-true}
+use Rattle.std.proofs.Common.{◌≡◌, ℕ, zero, suc, ◌-◌, ◌*◌, ◌^◌, ◌<◌, ◌≤◌, ◌==◌, ◌&&◌, ◌⊎◌, ◌++◌}
+use Rattle.std.proofs.Common.{Bool, true, false, nat_eq, nat_le, nat_lt, List, [], ◌∷◌, length}
+use Rattle.std.proofs.Common.{replicate}
+use Rattle.std.proofs.Common.{Option, Some, None, inl, inr, refl, sym, subst, arith, leb-true}
 use Rattle.std.proofs.Common.{unwrap_or}
 use Rattle.std.proofs.lemmas.Bool.{and_parts, ltb-false}
 use Rattle.std.proofs.lemmas.List.{length-append, length-replicate}
@@ -10,11 +11,12 @@ use Rattle.std.proofs.lemmas.Option.{none-some, same_Some}
 use Rattle.std.specs.Str.{bytes_eq}
 use Rattle.std.specs.Str.Parse.{digits_value}
 use Rattle.std.specs.Prelude.{codes}
-use Rattle.std.specs.List.{All, starts_with}
+use Rattle.std.specs.List.{starts_with}
 use Rattle.bn_types.specs.declared.event.Event.{Event}
 use Rattle.bn_types.specs.declared.event.Event.TheVariants.{Turn}
 use Rattle.bn_model.specs.declared.run_options.RunOptions.{RunOptions}
-use Rattle.bn_model.specs.Loading.{Load, Ram, Faulty, Unbuilt, elf_magic, load_if_elf, load_if_empty}
+use Rattle.bn_model.specs.Loading.{Load, Ram, Faulty, Unbuilt, elf_magic, load_if_elf}
+use Rattle.bn_model.specs.Loading.{load_if_empty}
 use Rattle.bn_model.specs.Loading.{load_if_long, load_of, load_raw_if, raw_entry}
 use Rattle.bn_model.specs.Opening.{Image, opening}
 use Rattle.bn_model.specs.Records.{AreRecords}
@@ -23,12 +25,14 @@ use Rattle.bn_model.specs.Running.{IsNext, Reaches, state_before, turns}
 use Rattle.bn_model.specs.Soundness.{IsPc, IsSound}
 use Rattle.bn_model.specs.State.{State}
 use Rattle.bn_model.specs.Stepping.{Fits, step}
-use Rattle.bn_model.specs.Words.{RunOrder, is_between, is_number, is_plain, no_options, number_between}
+use Rattle.bn_model.specs.Words.{RunOrder, is_between, is_number, is_plain, no_options}
+use Rattle.bn_model.specs.Words.{number_between}
 use Rattle.bn_model.specs.Words.{number_if, options_of, order_if, order_of, order_with, with_option}
 use Rattle.bn_model.specs.Words.{with_option_if, with_ram, with_steps}
 use Rattle.bn_model.proofs.SoundKept.{sound-kept}
 use Rattle.bn_model.proofs.SoundOpening.{opening-sound}
-use Rattle.bn_machine.specs.Runs.{AreBytes, HoldBytes, MakesOfFile, MakesOfLoad, MakesOfOrder, RunMakes}
+use Rattle.bn_machine.specs.Runs.{AreBytes, HoldBytes, MakesOfFile, MakesOfLoad, MakesOfOrder}
+use Rattle.bn_machine.specs.Runs.{RunMakes}
 
 -- ---- the order
 
@@ -47,7 +51,8 @@ ram-between value n e =
         → number_if b (digits_value 10 value) ≡ Some n → (16 ≤ n) × (n ≤ 4096)
     by_test true t is =
         let same = same_Some (digits_value 10 value) n is in
-        let between = (and_parts (is_number value) (is_between 16 4096 (digits_value 10 value)) t).1 in
+        let between = (and_parts (is_number value) (is_between 16 4096 (digits_value 10 value))
+        t).1 in
         let parts = and_parts (nat_le 16 (digits_value 10 value))
         (nat_le (digits_value 10 value) 4096) between in
         let least = leb-true 16 (digits_value 10 value) parts.0 in
@@ -203,7 +208,8 @@ reached (suc n) s before event sound makes =
 
     by_place : IsNext None s (Turn 0) before event
         ⊎ Reaches None (step (state_before None s) (Turn 0)) (turns n) before event
-        → (Reaches None (step s (Turn 0)) (turns n) before event → IsSound before × Fits before event)
+        → (Reaches None (step s (Turn 0)) (turns n) before event
+        → IsSound before × Fits before event)
         → IsSound before × Fits before event
     by_place (inl next) deeper = (
       subst IsSound (sym next.stands) sound,

@@ -1,12 +1,12 @@
 -- Harts that go from one context to another, over the machine's parts.
-use Rattle.std.proofs.Common.{◌≡◌, ◌≢◌, ℕ, zero, suc, ◌+◌, ◌<◌, ◌==◌, ◌&&◌, ◌++◌, Bool, true, false, List, []}
+use Rattle.std.proofs.Common.{◌≡◌, ◌≢◌, ℕ, zero, suc, ◌<◌, ◌==◌, ◌&&◌, ◌++◌, Bool, true, false}
+use Rattle.std.proofs.Common.{List, []}
 use Rattle.std.proofs.Common.{◌∷◌, length, find, cond, Option, Some, None, inl, inr, refl, sym, ap}
 use Rattle.std.proofs.Common.{subst, ◌∙◌, arith, eq-eqb, ne_eqb}
 use Rattle.std.proofs.lemmas.List.{append-nil, append_assoc, get_or-set_same, set-get_or}
 use Rattle.std.proofs.lemmas.List.{set-set}
 use Rattle.std.proofs.lemmas.Option.{none-some, same_Some}
 use Rattle.std.specs.List.{list_any}
-use Rattle.std.specs.Prelude.{slice_set}
 use Rattle.bn_types.specs.declared.cause.Cause.{Cause}
 use Rattle.bn_types.specs.declared.line.Line.{Line}
 use Rattle.bn_types.specs.declared.line.Line.TheVariants as line
@@ -19,8 +19,8 @@ use Rattle.bn_types.specs.declared.row_state.RowState.TheVariants.{Idle, Running
 use Rattle.bn_types.specs.declared.saved_frame.SavedFrame.{SavedFrame}
 use Rattle.bn_model.specs.Deciding.{caller_of}
 use Rattle.bn_model.specs.Decision.{Call, Return, Resume, Trap}
-use Rattle.bn_model.specs.Rows.{enclaves, has_id, owners, row_of, saved_of, with_row}
-use Rattle.bn_model.specs.Soundness.{Ascend, Has, IsSound, state_at, state_if_some}
+use Rattle.bn_model.specs.Rows.{enclaves, owners, row_of, saved_of, with_row}
+use Rattle.bn_model.specs.Soundness.{Ascend, Has, state_at, state_if_some}
 use Rattle.bn_model.specs.Spelling.{spelling, text_of}
 use Rattle.bn_model.specs.State.{Hart, State, frame_of, hart_after_call, hart_after_resume, hart_at}
 use Rattle.bn_model.specs.State.{hart_after_return, hart_after_stop, hart_after_trap, one_more}
@@ -36,9 +36,8 @@ use Rattle.bn_model.specs.Switching.{rows_after_call, rows_after_return, stopped
 use Rattle.bn_model.proofs.MembershipLemmas.{has-find}
 use Rattle.bn_model.proofs.RowLemmas.{owners-with_row}
 use Rattle.bn_model.proofs.TestLemmas.{find-passes}
-use Rattle.bn_switch.specs.Contexts.{IsOfModule, IsSeated, StandsIn, hart_of, module_in}
+use Rattle.bn_switch.specs.Contexts.{StandsIn, hart_of, module_in}
 use Rattle.bn_switch.specs.declared.context.Context.{Context}
-use Rattle.bn_table.specs.Tables.{IsRunning}
 use Rattle.bn_machine.specs.Harts.{hart_in_context}
 use Rattle.bn_machine.specs.Making.{state_after, state_after_stop, state_in_context}
 use Rattle.bn_machine.specs.Making.{text_after}
@@ -73,27 +72,6 @@ pub owners_resumed : (id h : ℕ) (rows : List Row)
     → owners (with_row id (row_after_resume h) rows) ≡ owners rows
 owners_resumed id h rows =
     owners-with_row id (row_after_resume h) (record { same = λ row. refl }) rows
-
--- ---- seats
-
--- a hart's seat is that of a module that runs
-pub seated : (s : State) (h : ℕ) (context : Context) → IsSound s → StandsIn context (hart_at s h)
-    → IsSeated s.rows context.seat
-seated s h context sound stands = by_seat context.seat stands.inside stands.current
-  where
-    by_number : (id : ModId) (n : ℕ) → id.0 ≡ n → id.0 ≢ 0 → id ≡ (hart_at s h).current
-        → IsRunning (state_at s.rows id.0)
-    by_number id zero is inside same = absurd (inside is)
-    by_number id (suc m) is inside same =
-        subst IsRunning
-        (sym (ap (state_at s.rows) is
-        ∙ sound.states.current h m (ap (λ (c : ModId). c.0) (sym same) ∙ is)))
-        tt
-
-    by_seat : (seat : Option ModId) → IsOfModule seat → module_in seat ≡ (hart_at s h).current
-        → IsSeated s.rows seat
-    by_seat None inside same = tt
-    by_seat (Some id) inside same = by_number id id.0 refl inside same
 
 -- ---- rows that are stopped
 

@@ -1,6 +1,6 @@
 -- How the parts of a turn join.
-use Rattle.std.proofs.Common.{◌≡◌, ℕ, zero, suc, ◌+◌, ◌<◌, ◌≤◌, true, false, length, List, [], Option, Some}
-use Rattle.std.proofs.Common.{None, Result, Ok, Err, refl, sym, ap, ◌∙◌, subst, arith}
+use Rattle.std.proofs.Common.{◌≡◌, ℕ, zero, suc, ◌+◌, ◌<◌, ◌≤◌, length, List, Option, Some}
+use Rattle.std.proofs.Common.{None, Result, Ok, Err, sym, ap, subst, arith}
 use Rattle.bn_types.specs.declared.act.Act.{Act}
 use Rattle.bn_types.specs.declared.act.Act.TheVariants as act
 use Rattle.bn_types.specs.declared.event.Event.TheVariants.{Turn}
@@ -8,26 +8,22 @@ use Rattle.bn_types.specs.declared.mod_id.ModId.{ModId}
 use Rattle.bn_types.specs.declared.fault.Fault.{Fault}
 use Rattle.bn_types.specs.declared.gpn.Gpn.{Gpn}
 use Rattle.bn_types.specs.declared.kind.Kind.TheVariants as kind
-use Rattle.bn_types.specs.declared.row.Row.{Row}
 use Rattle.bn_types.specs.declared.width.Width.TheVariants.{B4}
 use Rattle.bn_model.specs.Accessing.{access, answer_of_load}
-use Rattle.bn_model.specs.Deciding.{asked_of, asked_of_denial, asked_of_fault, asked_of_fetch}
-use Rattle.bn_model.specs.Deciding.{asked_of_insn, asked_of_interrupt, asked_of_stopped, decision_of}
-use Rattle.bn_model.specs.Deciding.{decision_of_fault, decision_of_hart}
+use Rattle.bn_model.specs.Deciding.{asked_of_denial, asked_of_fault, asked_of_fetch}
+use Rattle.bn_model.specs.Deciding.{asked_of_insn, asked_of_interrupt, asked_of_stopped}
 use Rattle.bn_model.specs.Decision.{Asked, Nothing, Interrupted, Unfetched, Resuming, Unknown}
-use Rattle.bn_model.specs.Decision.{Acting, Decision}
+use Rattle.bn_model.specs.Decision.{Acting}
 use Rattle.bn_model.specs.Decoding.{insn_of}
 use Rattle.bn_model.specs.Soundness.{IsSound}
-use Rattle.bn_model.specs.Spelling.{text_of}
-use Rattle.bn_model.specs.State.{Hart, State, asker, hart_at, memory}
-use Rattle.bn_model.specs.Stepping.{after_turn, lines_of_turn, step}
+use Rattle.bn_model.specs.State.{State, asker, hart_at, memory}
+use Rattle.bn_model.specs.Stepping.{step}
 use Rattle.bn_model.specs.Switching.{stopped_at}
 use Rattle.bn_model.specs.Walking.{vpn_of}
 use Rattle.bn_model.proofs.SoundKept.{sound-kept}
 use Rattle.bn_machine.specs.declared.unbuilt.Unbuilt.{Unbuilt}
-use Rattle.bn_machine.specs.Built.{is_built_turn}
-use Rattle.bn_machine.specs.Costs.{CountsAct, CountsAsked, CountsTurn}
-use Rattle.bn_machine.specs.Making.{IsMade, Makes, MakesAsked, MakesTurn}
+use Rattle.bn_machine.specs.Costs.{CountsAct, CountsAsked}
+use Rattle.bn_machine.specs.Making.{MakesAsked, MakesTurn}
 
 -- the answer of hart h's fetch
 abbrev pub fetched : State → ℕ → Result ℕ Fault
@@ -49,13 +45,15 @@ made-fetched result s t new text h word same e made =
 -- the fetch failed
 pub made-unfetched : (s t new : State) (text : List ℕ) (h : ℕ)
     (fault : Fault) → t ≡ s → fetched s h ≡ Err fault
-    → MakesAsked (Ok tt) t new text h (asked_of_fault (hart_at t h).current.0 t.rows (hart_at t h) fault)
+    → MakesAsked (Ok tt) t new text h (asked_of_fault (hart_at t h).current.0 t.rows (hart_at t
+    h) fault)
     → MakesAsked (Ok tt) s new text h (asked_of_interrupt s h (hart_at s h) None)
 made-unfetched s t new text h fault same e made =
     subst (λ (asked : Asked). MakesAsked (Ok tt) s new text h asked)
     (sym (ap (asked_of_fetch s.rows (hart_at s h)) e))
     (subst (λ (t : State).
-    MakesAsked (Ok tt) t new text h (asked_of_fault (hart_at t h).current.0 t.rows (hart_at t h) fault))
+    MakesAsked (Ok tt) t new text h (asked_of_fault (hart_at t h).current.0 t.rows (hart_at t h)
+    fault))
     same made)
 
 -- a turn keeps soundness

@@ -1,5 +1,5 @@
 -- What a turn's methods come to: the decision is made, or it isn't built and nothing changes.
-use Rattle.std.specs.Prelude.{◌≡◌, ℕ, suc, ◌<◌, ℤ, Bool, true, false, List, [], Result, Ok, Err}
+use Rattle.std.specs.Prelude.{◌≡◌, ℕ, suc, ◌<◌, ℤ, true, false, List, [], Result, Ok, Err}
 use Rattle.bn_types.specs.declared.act.Act.{Act}
 use Rattle.bn_model.specs.Deciding.{decision_of, decision_of_act, decision_of_asked}
 use Rattle.bn_model.specs.Decision.{Asked, Decision}

@@ -33,8 +33,6 @@ mod top;
 mod trap_values;
 mod upper_half;
 mod user;
-mod user_call;
-mod user_ident;
 mod user_pages;
 mod walk;
 

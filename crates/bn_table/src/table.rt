@@ -225,11 +225,11 @@ impl Table {
         self.change(id, &Change::Blank);
     }
 
-    /// Takes out the rows of a module that is evicted: its own, that of the module which waits for
-    /// it, and so on. They come in this order.
+    /// Takes out the rows that go with a module: its own, that of the module which waits for it,
+    /// and so on, in this order. Their ids aren't given again.
     ///
-    /// Refused is first an id that no module has, then a module that runs or waits; nothing changes
-    /// then. Ids are not given anew.
+    /// The error is `NoModule` where no live module has the id, and `Busy` where the module runs or
+    /// waits. Nothing changes then.
     pub fn evict(&mut self, id: ModId) -> Result<ArrayVec<Row, 15>, EvictRefused>
         ensures answer { (rd : Reg) (count : ℕ) → decision_of_evict rd id.0 count
             (row_of self.old.rows id.0) ≡ decision_of_answer rd id.0 count result }

@@ -17,6 +17,7 @@ use std::sync::ledger::Ledger;
 /// of the kind (1, 5, 7) where a table entry lies on a page that isn't free, and else the page
 /// fault of the
 /// kind (12, 13, 15). Each entry that is read costs four steps, so a walk at most twelve.
+#[inline(always)]
 pub fn walk<P: Pages, L: Ledger>(
     pages: &P,
     satp: u64,

@@ -6,7 +6,7 @@ use super::memory::{changed_module, pages, put, put_module, put_tables, put_tran
 use super::rows::{ACCEPTING, MODULE, full_table, known, offering, table_with};
 use crate::{LaunchRefused, code_of, judge};
 use bn_table::Table;
-use bn_types::{Digest, Gpn, Judged, ModId, Mode, Sort, Steps};
+use bn_types::{Digest, Judged, Mode, Sort, Steps};
 use std::marker::Brand;
 use std::sync::ledger::{Blank, Ledger};
 use std::test::Fail;
@@ -76,7 +76,7 @@ fn a_module_has_the_digest_of_its_text_and_pages(rt: HostRuntime) -> Result<(), 
     let Ok(judged) = launch(&Table::empty(), &pages, TEXT) else {
         panic!(rt; "the launch is refused");
     };
-    assert!(rt; judged.digest == MODULE);
+    assert!(rt; judged.digest == Digest(MODULE));
     assert!(rt; judged.mode == Mode::S);
     assert!(rt; judged.entries.as_slice() == [0x80010000].as_slice());
     let reached = judged
@@ -145,7 +145,7 @@ fn a_page_is_accepted_from_the_module_that_offers_it(rt: HostRuntime) -> Result<
     let Ok(judged) = launch(&table_with(offering()), &pages, TEXT) else {
         panic!(rt; "the launch is refused");
     };
-    assert!(rt; judged.digest == ACCEPTING);
+    assert!(rt; judged.digest == Digest(ACCEPTING));
     let sources = judged
         .decls
         .iter()
@@ -158,7 +158,10 @@ fn a_page_is_accepted_from_the_module_that_offers_it(rt: HostRuntime) -> Result<
 fn the_table_is_asked_last(rt: HostRuntime) -> Result<(), Fail> {
     let mut pages = pages();
     put_module(&mut pages);
-    assert_eq!(rt; code_at(&table_with(known(MODULE)), &pages, TEXT), -7);
+    assert_eq!(rt;
+        code_at(&table_with(known(Digest(MODULE))), &pages, TEXT),
+        -7
+    );
     assert_eq!(rt; code_at(&full_table(), &pages, TEXT), -8);
     Ok(())
 }

@@ -180,7 +180,7 @@ impl Engine {
     // ---- the hart alone
 
     /// What hart h takes with it to other code.
-    #[tactic(auto, using(crate::proofs::Switches::seated))]
+    #[tactic(auto, using(bn_switch::proofs::SeatLemmas::sound_seat))]
     fn leave(&mut self, h: u8) -> Context
         requires sound { IsSound self.old.state }
         requires hart { h < length self.old.state.harts }

@@ -421,6 +421,111 @@ const CALL_REFUSALS_LINES: [&str; 14] = [
     "end 66 shutdown 62e39c0b5a57793ba24db0d798c50acf91946a90cab038a5aa48a88b964fa707\n",
 ];
 
+// What the calls to the hypervisor leave with one hart: the timer, which keeps a1; a key, of which
+// none waits; the start of a hart, refused as it is no hart, at no multiple of 4, or started; and
+// software interrupts, which come to hart 0 by its number and by all harts, and to no other.
+const HYPERVISOR_CODE: [u32; 93] = [
+    0x00000813, // addi x16,x0,0
+    0x000008b7, // lui x17,0x0
+    0x00088893, // addi x17,x17,0
+    0xfff00513, // addi x10,x0,-1
+    0x00700593, // addi x11,x0,7
+    0x00000073, // ecall
+    0x00000f93, // addi x31,x0,0
+    0x15f51263, // bne x10,x31,0x80000160
+    0x00700f93, // addi x31,x0,7
+    0x13f59e63, // bne x11,x31,0x80000160
+    0x000008b7, // lui x17,0x0
+    0x00288893, // addi x17,x17,2
+    0x00900513, // addi x10,x0,9
+    0x00700593, // addi x11,x0,7
+    0x00000073, // ecall
+    0xfff00f93, // addi x31,x0,-1
+    0x13f51063, // bne x10,x31,0x80000160
+    0x00700f93, // addi x31,x0,7
+    0x11f59c63, // bne x11,x31,0x80000160
+    0x004858b7, // lui x17,0x485
+    0x34d88893, // addi x17,x17,845
+    0x00100513, // addi x10,x0,1
+    0x00000593, // addi x11,x0,0
+    0x00000073, // ecall
+    0xffd00f93, // addi x31,x0,-3
+    0x0ff51e63, // bne x10,x31,0x80000160
+    0x00000f93, // addi x31,x0,0
+    0x0ff59a63, // bne x11,x31,0x80000160
+    0x004858b7, // lui x17,0x485
+    0x34d88893, // addi x17,x17,845
+    0x00000513, // addi x10,x0,0
+    0x00200593, // addi x11,x0,2
+    0x00000073, // ecall
+    0xffb00f93, // addi x31,x0,-5
+    0x0df51c63, // bne x10,x31,0x80000160
+    0x004858b7, // lui x17,0x485
+    0x34d88893, // addi x17,x17,845
+    0x00000513, // addi x10,x0,0
+    0x00400593, // addi x11,x0,4
+    0x00000073, // ecall
+    0xffa00f93, // addi x31,x0,-6
+    0x0bf51e63, // bne x10,x31,0x80000160
+    0x007358b7, // lui x17,0x735
+    0x04988893, // addi x17,x17,73
+    0x00200513, // addi x10,x0,2
+    0x00000593, // addi x11,x0,0
+    0x00000073, // ecall
+    0xffd00f93, // addi x31,x0,-3
+    0x0bf51063, // bne x10,x31,0x80000160
+    0x144022f3, // csrrs x5,sip,x0
+    0x00000f93, // addi x31,x0,0
+    0x09f29a63, // bne x5,x31,0x80000160
+    0x007358b7, // lui x17,0x735
+    0x04988893, // addi x17,x17,73
+    0x00100513, // addi x10,x0,1
+    0x00000593, // addi x11,x0,0
+    0x00000073, // ecall
+    0x00000f93, // addi x31,x0,0
+    0x07f51c63, // bne x10,x31,0x80000160
+    0x00000f93, // addi x31,x0,0
+    0x07f59863, // bne x11,x31,0x80000160
+    0x144022f3, // csrrs x5,sip,x0
+    0x00200f93, // addi x31,x0,2
+    0x07f29263, // bne x5,x31,0x80000160
+    0x14401073, // csrrw x0,sip,x0
+    0x007358b7, // lui x17,0x735
+    0x04988893, // addi x17,x17,73
+    0x00000513, // addi x10,x0,0
+    0xfff00593, // addi x11,x0,-1
+    0x00000073, // ecall
+    0x00000f93, // addi x31,x0,0
+    0x05f51263, // bne x10,x31,0x80000160
+    0x144022f3, // csrrs x5,sip,x0
+    0x00200f93, // addi x31,x0,2
+    0x03f29c63, // bne x5,x31,0x80000160
+    0x14401073, // csrrw x0,sip,x0
+    0x00100813, // addi x16,x0,1
+    0x007358b7, // lui x17,0x735
+    0x04988893, // addi x17,x17,73
+    0x00100513, // addi x10,x0,1
+    0x00000593, // addi x11,x0,0
+    0x00000073, // ecall
+    0xffe00f93, // addi x31,x0,-2
+    0x01f51a63, // bne x10,x31,0x80000160
+    0x144022f3, // csrrs x5,sip,x0
+    0x00000f93, // addi x31,x0,0
+    0x01f29463, // bne x5,x31,0x80000160
+    0x0100006f, // jal x0,0x8000016c
+    0x02100513, // addi x10,x0,33
+    0x00100893, // addi x17,x0,1
+    0x00000073, // ecall
+    0x00800893, // addi x17,x0,8
+    0x00000073, // ecall
+];
+
+const HYPERVISOR_TABLES: [(usize, u64); 0] = [];
+
+const HYPERVISOR_LINES: [&str; 1] = [
+    "end 90 shutdown 91fa5a6088c6eec49c5f1c60e22daa13b821a324514d57027f808bd1fb2068fe\n",
+];
+
 // What a module may not execute: every SYSTEM instruction, launch, evict, and words that are none.
 // Each is tried by a module of its own.
 const ILLEGAL_CODE: [u32; 49] = [
@@ -944,6 +1049,47 @@ const UNMAPPED_ENTRY_LINES: [&str; 7] = [
     "end 35 shutdown f9741e0f703bdd8cd5eda696f6f7ca7d987c0a0448d876773d0810797f7f1504\n",
 ];
 
+// Mode U may use b.call, and is refused as there is no such module.
+const USER_CALL_CODE: [u32; 7] = [
+    0x00000417, // auipc x8,0x0
+    0x00000297, // auipc x5,0x0
+    0x01028293, // addi x5,x5,16
+    0x14129073, // csrrw x0,sepc,x5
+    0x10200073, // sret
+    0x0073128b, // b.call x5,x6,x7
+    0x00000073, // ecall
+];
+
+const USER_CALL_TABLES: [(usize, u64); 0] = [];
+
+const USER_CALL_LINES: [&str; 5] = [
+    "refuse 5 0 call -1\n",
+    "trap 6 0 0000000000000008 0000000080000018\n",
+    "trap 7 0 0000000000000001 0000000000000000\n",
+    "trap 8 0 0000000000000001 0000000000000000\n",
+    "end 9 limit 4be4c08e061e14e48132a0cc76cff5f57ad695eeb674470027c23f1c25600e42\n",
+];
+
+// Mode U may use b.ident, and gets 0 as there is no such module.
+const USER_IDENT_CODE: [u32; 7] = [
+    0x00000417, // auipc x8,0x0
+    0x00000297, // auipc x5,0x0
+    0x01028293, // addi x5,x5,16
+    0x14129073, // csrrw x0,sepc,x5
+    0x10200073, // sret
+    0x0073428b, // b.ident x5,x6,x7
+    0x00000073, // ecall
+];
+
+const USER_IDENT_TABLES: [(usize, u64); 0] = [];
+
+const USER_IDENT_LINES: [&str; 4] = [
+    "trap 6 0 0000000000000008 0000000080000018\n",
+    "trap 7 0 0000000000000001 0000000000000000\n",
+    "trap 8 0 0000000000000001 0000000000000000\n",
+    "end 9 limit 5f3462e9baee37815542e46c109e0efb60261d52725e5e478e3e59493a27674e\n",
+];
+
 // A stopped module is resumed at its pc, in its mode, by its page at the page's own address, and
 // not otherwise: elsewhere the fetch is denied, and another page there is just executed.
 const WRONG_RESUMPTION_CODE: [u32; 96] = [
@@ -1089,7 +1235,7 @@ const WRONG_RESUMPTION_LINES: [&str; 17] = [
     "end 117 shutdown f710794b7c9fbac4722b8353a24cb31b7604a68d2be2557eebe6eac43a24b941\n",
 ];
 
-const GUESTS: [Guest<'static>; 11] = [
+const GUESTS: [Guest<'static>; 14] = [
     Guest {
         code: &ACCEPTED_CODE,
         tables: &ACCEPTED_TABLES,
@@ -1113,6 +1259,12 @@ const GUESTS: [Guest<'static>; 11] = [
         tables: &CALL_REFUSALS_TABLES,
         steps: 60_000,
         lines: &CALL_REFUSALS_LINES,
+    },
+    Guest {
+        code: &HYPERVISOR_CODE,
+        tables: &HYPERVISOR_TABLES,
+        steps: 60_000,
+        lines: &HYPERVISOR_LINES,
     },
     Guest {
         code: &ILLEGAL_CODE,
@@ -1149,6 +1301,18 @@ const GUESTS: [Guest<'static>; 11] = [
         tables: &UNMAPPED_ENTRY_TABLES,
         steps: 60_000,
         lines: &UNMAPPED_ENTRY_LINES,
+    },
+    Guest {
+        code: &USER_CALL_CODE,
+        tables: &USER_CALL_TABLES,
+        steps: 9,
+        lines: &USER_CALL_LINES,
+    },
+    Guest {
+        code: &USER_IDENT_CODE,
+        tables: &USER_IDENT_TABLES,
+        steps: 9,
+        lines: &USER_IDENT_LINES,
     },
     Guest {
         code: &WRONG_RESUMPTION_CODE,

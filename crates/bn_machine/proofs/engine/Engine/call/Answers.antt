@@ -49,7 +49,8 @@ returns-in-Err c =
     ∙ ap₂ (λ (mode : Mode) (rows : List Row).
     decision_of_call mode c.args.rd c.args.id c.args.entry (row_of rows c.args.id)) stands.mode
     (ap (λ (x : State). x.rows) left) in
-    let same = state_put_back s _ _ _ h c.leave-here.result c.in-Err.here c.requires.hart stands left
+    let same = state_put_back s _ _ _ h c.leave-here.result c.in-Err.here c.requires.hart stands
+    left
     c.in-Err.ensures.same c.in-Err.ensures.back c.settle.ensures in
     let code = to_z-of_z w64 c.code_of.result (sfits_lit (yes_ltb c.code_of.type_inv))
     ∙ c.code_of.ensures in

@@ -20,5 +20,6 @@ returns-in-Ok-clause-few g c =
 
 pub returns-in-Err-clause-few : goal.returns-in-Err-clause-few
 returns-in-Err-clause-few g c =
-    counted-unfetched c.args.self.now.state c.args.h c.in-Err.fault _ _ (sym c.fetch.ensures.word ∙ c.in-Err.is)
+    counted-unfetched c.args.self.now.state c.args.h c.in-Err.fault _ _ (sym
+    c.fetch.ensures.word ∙ c.in-Err.is)
     c.fetch.ensures.few

@@ -1,4 +1,4 @@
-use Rattle.std.proofs.Common.{◌<◌, None, length, subst, sym, ◌∙◌, arith}
+use Rattle.std.proofs.Common.{◌<◌, length, subst, sym, arith}
 use Rattle.sha2.specs.Hashers.{Holds256}
 use Rattle.bn_model.specs.Memory.{visible}
 use Rattle.bn_unit.specs.Memory.{memory_of}
