@@ -145,8 +145,8 @@ static void __attribute__((noreturn)) go_on(void)
 }
 
 /* The kernel's own load is passed over. The receiver's leaves it stopped, and run, which called it,
-   waits for ever: the kernel goes on elsewhere. Of a module's address the page alone is told, by its
-   first byte. */
+   waits for ever: the kernel goes on elsewhere. Of a module's address the page alone is told, by
+   its first byte. */
 void handle_trap(struct frame *frame)
 {
     u64 address = READ_CSR(stval);
