@@ -131,7 +131,8 @@ static inline long launch_module(const struct segment *text)
     return id;
 }
 
-/* Gives 0, or a refusal. The module's private and offered pages are zero then, and free. */
+/* Gives 0, or a refusal. The module's private and offered pages are zero then, and free, but for
+   those that a live module accepts. */
 static inline long evict_module(unsigned long id)
 {
     long refusal;
