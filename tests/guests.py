@@ -23,11 +23,9 @@ FOLDERS = {
         "pages_of_modules_are_their_own"),
     "switches": (
         UNBUILT,
-        "Guests that call modules, whose modules call and return, are stopped and go on.",
-        "modules_are_called_stopped_and_resumed"),
+        "Guests that call modules, whose modules call and return, are stopped, go on and are evicted.",
+        "modules_are_called_stopped_resumed_and_evicted"),
 }
-# a folder of guests of parts that the emulator doesn't have yet
-LATER = "later"
 # as many events as a guest of a folder may have
 ALL = 60_000
 
@@ -190,8 +188,7 @@ def listing(name):
 
 def trace(name, image):
     folder = name.split("/")[0]
-    unbuilt = FOLDERS[folder][0] if folder in FOLDERS else ()
-    return Machine(image, settings(name)[1], unbuilt).run(steps(name))
+    return Machine(image, settings(name)[1], FOLDERS[folder][0]).run(steps(name))
 
 
 def folder_module(folder):

@@ -7,7 +7,7 @@ from machine.values import FETCH, MASK, PAGE, RAM, Unbuilt, signed
 __all__ = ["FETCH", "MASK", "RAM", "UNBUILT", "Machine", "signed"]
 
 # what the emulator doesn't have yet; a run that comes to it ends with `unbuilt`
-UNBUILT = frozenset(("evict", "sset"))
+UNBUILT = frozenset(("sset",))
 
 
 class Machine:

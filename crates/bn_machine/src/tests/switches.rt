@@ -1,4 +1,4 @@
-//! Guests that call modules, whose modules call and return, are stopped and go on.
+//! Guests that call modules, whose modules call and return, are stopped, go on and are evicted.
 //! Made by `tests/make` from their assembly; the traces are those of `tests/interpreter.py`.
 
 use super::guest::{Guest, expect_guests};
@@ -76,6 +76,95 @@ const ACCEPTED_LINES: [&str; 9] = [
     "stop 30 0 2 0000000080011018\n",
     "trap 30 0 0000000000000007 0000000080011018\n",
     "end 38 shutdown 59bb9dc387fa6b9c00bc54861409361cf39a382b7486660cf20cb5d7a6872ffa\n",
+];
+
+// An idle module that accepts a page is evicted: the page keeps its bytes, and its owner its
+// access; the module's own page is zeros.
+const ACCEPTER_GONE_CODE: [u32; 47] = [
+    0x00000f97, // auipc x31,0x0
+    0x0a0f8f93, // addi x31,x31,160
+    0x105f9073, // csrrw x0,stvec,x31
+    0x00008397, // auipc x7,0x8
+    0xff438393, // addi x7,x7,-12
+    0x0003828b, // b.launch x5,x7
+    0x00100f93, // addi x31,x0,1
+    0x09f29663, // bne x5,x31,0x800000a8
+    0x00009397, // auipc x7,0x9
+    0xfe038393, // addi x7,x7,-32
+    0x0003830b, // b.launch x6,x7
+    0x00200f93, // addi x31,x0,2
+    0x07f31c63, // bne x6,x31,0x800000a8
+    0x0003330b, // b.evict x6,x6
+    0x00000f93, // addi x31,x0,0
+    0x07f31663, // bne x6,x31,0x800000a8
+    0x00011397, // auipc x7,0x11
+    0xfc038393, // addi x7,x7,-64
+    0x0003b303, // ld x6,0(x7)
+    0x00000f93, // addi x31,x0,0
+    0x05f31c63, // bne x6,x31,0x800000a8
+    0x0103b303, // ld x6,16(x7)
+    0x00000f93, // addi x31,x0,0
+    0x05f31663, // bne x6,x31,0x800000a8
+    0x00014517, // auipc x10,0x14
+    0xfa050513, // addi x10,x10,-96
+    0x00000f97, // auipc x31,0x0
+    0x014f8f93, // addi x31,x31,20
+    0x140f9073, // csrrw x0,sscratch,x31
+    0x00053303, // ld x6,0(x10)
+    0x0300006f, // jal x0,0x800000a8
+    0x00010497, // auipc x9,0x10
+    0xf8448493, // addi x9,x9,-124
+    0x04200593, // addi x11,x0,66
+    0x0092938b, // b.call x7,x5,x9
+    0x03700f93, // addi x31,x0,55
+    0x01f51c63, // bne x10,x31,0x800000a8
+    0x04200f93, // addi x31,x0,66
+    0x01f59863, // bne x11,x31,0x800000a8
+    0x0180006f, // jal x0,0x800000b4
+    0x14002ff3, // csrrs x31,sscratch,x0
+    0x000f8067, // jalr x0,0(x31)
+    0x02100513, // addi x10,x0,33
+    0x00100893, // addi x17,x0,1
+    0x00000073, // ecall
+    0x00800893, // addi x17,x0,8
+    0x00000073, // ecall
+];
+
+const ACCEPTER_GONE_TABLES: [(usize, u64); 23] = [
+    (32768, 0x201010147534e42),
+    (32776, 0x1),
+    (32784, 0x80010000),
+    (32848, 0x80010),
+    (32856, 0x501),
+    (32864, 0x80014),
+    (32872, 0x10302),
+    (33872, 0xc5a5a0ff5f23766f),
+    (33880, 0xb414bbad8c0172e3),
+    (33888, 0x5a4ea0781efa7c6a),
+    (33896, 0x26604ccd095faa1e),
+    (36864, 0x201010147534e42),
+    (36880, 0x80011000),
+    (36944, 0x80011),
+    (36952, 0x701),
+    (36960, 0x80014),
+    (36968, 0x303),
+    (65536, 0xb5342300053283),
+    (65544, 0x2851300853583),
+    (65552, 0x200b),
+    (69632, 0x200b),
+    (69648, 0x4d),
+    (81920, 0x37),
+];
+
+const ACCEPTER_GONE_LINES: [&str; 8] = [
+    "launch 5 0 1 bfde30c003853cd460a22c12885074d55c3a70bfaf5147d844717e2cd96f6b8c\n",
+    "launch 10 0 2 6f76235fffa0a5c5e372018cadbb14b46a7cfa1e78a04e5a1eaa5f09cd4c6026\n",
+    "evict 13 0 2 1\n",
+    "deny 29 0 0 load 0000000080014\n",
+    "trap 29 0 0000000000000005 0000000080000074\n",
+    "call 35 0 0 1 0000000080010000\n",
+    "ret 40 0 1 0 000000008000008c\n",
+    "end 48 shutdown caee67f70472d4b7f1fcb9175ae99735607315fe613eb9e0ca56d8d53da8ff0b\n",
 ];
 
 // A running module calls itself; one that it calls calls it back: neither is idle. Who calls and
@@ -419,6 +508,98 @@ const CALL_REFUSALS_LINES: [&str; 14] = [
     "refuse 56 0 call -4\n",
     "refuse 60 0 call -2\n",
     "end 66 shutdown 62e39c0b5a57793ba24db0d798c50acf91946a90cab038a5aa48a88b964fa707\n",
+];
+
+// A module that another waits for is stopped, and evicted with it: their own pages become zeros and
+// anyone's, and their ids don't come again.
+const EVICT_CHAIN_CODE: [u32; 56] = [
+    0x00000f97, // auipc x31,0x0
+    0x04cf8f93, // addi x31,x31,76
+    0x105f9073, // csrrw x0,stvec,x31
+    0x00008397, // auipc x7,0x8
+    0xff438393, // addi x7,x7,-12
+    0x0003828b, // b.launch x5,x7
+    0x00009397, // auipc x7,0x9
+    0xfe838393, // addi x7,x7,-24
+    0x0003830b, // b.launch x6,x7
+    0x00900413, // addi x8,x0,9
+    0x0004338b, // b.evict x7,x8
+    0xfff00f93, // addi x31,x0,-1
+    0x09f39e63, // bne x7,x31,0x800000cc
+    0x00010497, // auipc x9,0x10
+    0xfcc48493, // addi x9,x9,-52
+    0x00012517, // auipc x10,0x12
+    0xfc450513, // addi x10,x10,-60
+    0x0092938b, // b.call x7,x5,x9
+    0x0840006f, // jal x0,0x800000cc
+    0x00100293, // addi x5,x0,1
+    0x0002b30b, // b.evict x6,x5
+    0xffe00f93, // addi x31,x0,-2
+    0x07f31a63, // bne x6,x31,0x800000cc
+    0x00200293, // addi x5,x0,2
+    0x0002b28b, // b.evict x5,x5
+    0x00000f93, // addi x31,x0,0
+    0x07f29263, // bne x5,x31,0x800000cc
+    0x00010497, // auipc x9,0x10
+    0xf9448493, // addi x9,x9,-108
+    0x0004b283, // ld x5,0(x9)
+    0x00000f93, // addi x31,x0,0
+    0x05f29863, // bne x5,x31,0x800000cc
+    0x00001337, // lui x6,0x1
+    0x006484b3, // add x9,x9,x6
+    0x0004b283, // ld x5,0(x9)
+    0x00000f93, // addi x31,x0,0
+    0x03f29e63, // bne x5,x31,0x800000cc
+    0x006484b3, // add x9,x9,x6
+    0x0004b283, // ld x5,0(x9)
+    0x00000f93, // addi x31,x0,0
+    0x03f29663, // bne x5,x31,0x800000cc
+    0x00100293, // addi x5,x0,1
+    0x0002b28b, // b.evict x5,x5
+    0xfff00f93, // addi x31,x0,-1
+    0x01f29e63, // bne x5,x31,0x800000cc
+    0x00008397, // auipc x7,0x8
+    0xf4c38393, // addi x7,x7,-180
+    0x0003828b, // b.launch x5,x7
+    0x00300f93, // addi x31,x0,3
+    0x01f29463, // bne x5,x31,0x800000cc
+    0x0100006f, // jal x0,0x800000d8
+    0x02100513, // addi x10,x0,33
+    0x00100893, // addi x17,x0,1
+    0x00000073, // ecall
+    0x00800893, // addi x17,x0,8
+    0x00000073, // ecall
+];
+
+const EVICT_CHAIN_TABLES: [(usize, u64); 13] = [
+    (32768, 0x201010147534e42),
+    (32784, 0x80010000),
+    (32848, 0x80010),
+    (32856, 0x501),
+    (32864, 0x80011),
+    (32872, 0x301),
+    (36864, 0x101010147534e42),
+    (36880, 0x80012000),
+    (36944, 0x80012),
+    (36952, 0x501),
+    (65536, 0xa4128b00200413),
+    (69632, 0x1122334455667788),
+    (73728, 0x100073),
+];
+
+const EVICT_CHAIN_LINES: [&str; 12] = [
+    "launch 5 0 1 064acf2ff7db48c158656662724119126dee380f7d613634913c3a85c723e634\n",
+    "launch 8 0 2 7e29aafeb61093b4be0f34b5561bd41b4cf8433343b923dd613f06af273fa102\n",
+    "refuse 10 0 evict -1\n",
+    "call 17 0 0 1 0000000080010000\n",
+    "call 19 0 1 2 0000000080012000\n",
+    "stop 20 0 2 0000000080012000\n",
+    "trap 20 0 0000000000000002 0000000080012000\n",
+    "refuse 22 0 evict -2\n",
+    "evict 26 0 2 2\n",
+    "refuse 44 0 evict -1\n",
+    "launch 49 0 3 5668ca26752d5282d3c524160b686dd625553d34778be196e7d44adb600b36f5\n",
+    "end 55 shutdown 55ea9bbf3bf2b4aee567afb958fd953f0f4cc7629a2ce89a5ebfc463bfc4f744\n",
 ];
 
 // What the calls to the hypervisor leave with one hart: the timer, which keeps a1; a key, of which
@@ -858,6 +1039,203 @@ const MODULE_ACCESSES_LINES: [&str; 11] = [
     "end 58 shutdown 1105d5ad6351a7f0fd3610da98f6890ca8f1f6097142704f97cc0769b9955dc5\n",
 ];
 
+// The module that offers a page is evicted: who accepted it has it no more, is told that nobody
+// offers it, and keeps it from others until it goes too. The page has been zeros since.
+const OFFERER_GONE_CODE: [u32; 50] = [
+    0x00000f97, // auipc x31,0x0
+    0x06cf8f93, // addi x31,x31,108
+    0x105f9073, // csrrw x0,stvec,x31
+    0x00008397, // auipc x7,0x8
+    0xff438393, // addi x7,x7,-12
+    0x0003828b, // b.launch x5,x7
+    0x00100f93, // addi x31,x0,1
+    0x09f29c63, // bne x5,x31,0x800000b4
+    0x00009397, // auipc x7,0x9
+    0xfe038393, // addi x7,x7,-32
+    0x0003830b, // b.launch x6,x7
+    0x00200f93, // addi x31,x0,2
+    0x09f31263, // bne x6,x31,0x800000b4
+    0x0002b28b, // b.evict x5,x5
+    0x00000f93, // addi x31,x0,0
+    0x07f29c63, // bne x5,x31,0x800000b4
+    0x00008397, // auipc x7,0x8
+    0x49038393, // addi x7,x7,1168
+    0x0003828b, // b.launch x5,x7
+    0xffc00f93, // addi x31,x0,-4
+    0x07f29263, // bne x5,x31,0x800000b4
+    0x00014517, // auipc x10,0x14
+    0xfac50513, // addi x10,x10,-84
+    0x00011497, // auipc x9,0x11
+    0xfa448493, // addi x9,x9,-92
+    0x0093138b, // b.call x7,x6,x9
+    0x04c0006f, // jal x0,0x800000b4
+    0x00008397, // auipc x7,0x8
+    0x46438393, // addi x7,x7,1124
+    0x0003828b, // b.launch x5,x7
+    0xffc00f93, // addi x31,x0,-4
+    0x03f29c63, // bne x5,x31,0x800000b4
+    0x00200293, // addi x5,x0,2
+    0x0002b28b, // b.evict x5,x5
+    0x00000f93, // addi x31,x0,0
+    0x03f29463, // bne x5,x31,0x800000b4
+    0x00014317, // auipc x6,0x14
+    0xf7030313, // addi x6,x6,-144
+    0x00033283, // ld x5,0(x6)
+    0x00000f93, // addi x31,x0,0
+    0x01f29a63, // bne x5,x31,0x800000b4
+    0x0003828b, // b.launch x5,x7
+    0x00300f93, // addi x31,x0,3
+    0x01f29463, // bne x5,x31,0x800000b4
+    0x0100006f, // jal x0,0x800000c0
+    0x02100513, // addi x10,x0,33
+    0x00100893, // addi x17,x0,1
+    0x00000073, // ecall
+    0x00800893, // addi x17,x0,8
+    0x00000073, // ecall
+];
+
+const OFFERER_GONE_TABLES: [(usize, u64); 26] = [
+    (32768, 0x201010147534e42),
+    (32776, 0x1),
+    (32784, 0x80010000),
+    (32848, 0x80010),
+    (32856, 0x501),
+    (32864, 0x80014),
+    (32872, 0x10302),
+    (33872, 0xe32cb182c2a6d3a8),
+    (33880, 0xa7abe3c1a91eceab),
+    (33888, 0x554efb3f053139eb),
+    (33896, 0x5303f1ec2099de4a),
+    (34000, 0x201010147534e42),
+    (34016, 0x80012000),
+    (34080, 0x80012),
+    (34088, 0x501),
+    (34096, 0x80014),
+    (34104, 0x301),
+    (36864, 0x201010147534e42),
+    (36880, 0x80011000),
+    (36944, 0x80011),
+    (36952, 0x501),
+    (36960, 0x80014),
+    (36968, 0x103),
+    (69632, 0x396630005638b),
+    (69640, 0x5328300000013),
+    (81920, 0x5555),
+];
+
+const OFFERER_GONE_LINES: [&str; 12] = [
+    "launch 5 0 1 222bb5a8dc9e5a0b5dfea241e60ee1a224cb011edb761a354a045424ed00174e\n",
+    "launch 10 0 2 a8d3a6c282b12ce3abce1ea9c1e3aba7eb3931053ffb4e554ade9920ecf10353\n",
+    "evict 13 0 1 1\n",
+    "refuse 18 0 launch -4\n",
+    "call 25 0 0 2 0000000080011000\n",
+    "deny 29 0 2 load 0000000080014\n",
+    "stop 29 0 2 000000008001100c\n",
+    "trap 29 0 0000000000000005 000000008001100c\n",
+    "refuse 32 0 launch -4\n",
+    "evict 36 0 2 1\n",
+    "launch 44 0 3 35c97703495ffce6667478e945fdccfbafbcf4cc0b7cb8535284752342805d6c\n",
+    "end 50 shutdown 5306d2e14b714e1f56c91ae792494e275fafb7c63fe4654251c70a4aadf7c9bc\n",
+];
+
+// A module jumps to its data, and another to nobody's page: neither may be executed by it, so it is
+// stopped there. A return to that place doesn't resume it: the data stay denied, and nobody's page
+// is just executed. A module that was stopped there can only be evicted.
+const STOPPED_OUTSIDE_CODE: [u32; 56] = [
+    0x00000f97, // auipc x31,0x0
+    0x0c4f8f93, // addi x31,x31,196
+    0x105f9073, // csrrw x0,stvec,x31
+    0x00008397, // auipc x7,0x8
+    0xff438393, // addi x7,x7,-12
+    0x0003828b, // b.launch x5,x7
+    0x00100f93, // addi x31,x0,1
+    0x0bf29863, // bne x5,x31,0x800000cc
+    0x00009397, // auipc x7,0x9
+    0xfe038393, // addi x7,x7,-32
+    0x0003830b, // b.launch x6,x7
+    0x00200f93, // addi x31,x0,2
+    0x09f31e63, // bne x6,x31,0x800000cc
+    0x00010497, // auipc x9,0x10
+    0xfcc48493, // addi x9,x9,-52
+    0x00011517, // auipc x10,0x11
+    0xfc450513, // addi x10,x10,-60
+    0x00000f97, // auipc x31,0x0
+    0x010f8f93, // addi x31,x31,16
+    0x140f9073, // csrrw x0,sscratch,x31
+    0x0092938b, // b.call x7,x5,x9
+    0x00000f97, // auipc x31,0x0
+    0x010f8f93, // addi x31,x31,16
+    0x140f9073, // csrrw x0,sscratch,x31
+    0x10200073, // sret
+    0x00200313, // addi x6,x0,2
+    0x00012497, // auipc x9,0x12
+    0xf9848493, // addi x9,x9,-104
+    0x00013517, // auipc x10,0x13
+    0xf9050513, // addi x10,x10,-112
+    0x00000f97, // auipc x31,0x0
+    0x010f8f93, // addi x31,x31,16
+    0x140f9073, // csrrw x0,sscratch,x31
+    0x0093138b, // b.call x7,x6,x9
+    0x00000f97, // auipc x31,0x0
+    0x010f8f93, // addi x31,x31,16
+    0x140f9073, // csrrw x0,sscratch,x31
+    0x10200073, // sret
+    0x02100f93, // addi x31,x0,33
+    0x03f91863, // bne x18,x31,0x800000cc
+    0x00100293, // addi x5,x0,1
+    0x0002b28b, // b.evict x5,x5
+    0x00000f93, // addi x31,x0,0
+    0x03f29063, // bne x5,x31,0x800000cc
+    0x00200293, // addi x5,x0,2
+    0x0002b28b, // b.evict x5,x5
+    0x00000f93, // addi x31,x0,0
+    0x01f29863, // bne x5,x31,0x800000cc
+    0x0180006f, // jal x0,0x800000d8
+    0x14002ff3, // csrrs x31,sscratch,x0
+    0x000f8067, // jalr x0,0(x31)
+    0x02100513, // addi x10,x0,33
+    0x00100893, // addi x17,x0,1
+    0x00000073, // ecall
+    0x00800893, // addi x17,x0,8
+    0x00000073, // ecall
+];
+
+const STOPPED_OUTSIDE_TABLES: [(usize, u64); 14] = [
+    (32768, 0x201010147534e42),
+    (32784, 0x80010000),
+    (32848, 0x80010),
+    (32856, 0x501),
+    (32864, 0x80011),
+    (32872, 0x301),
+    (36864, 0x101010147534e42),
+    (36880, 0x80012000),
+    (36944, 0x80012),
+    (36952, 0x501),
+    (65536, 0x50067),
+    (69632, 0x2c00913),
+    (73728, 0x50067),
+    (77824, 0x10007302100913),
+];
+
+const STOPPED_OUTSIDE_LINES: [&str; 16] = [
+    "launch 5 0 1 db7fa4850328f666a11318072ac5d1e7f82ac76c344a57533dd66717044aac80\n",
+    "launch 10 0 2 f533d19647adc4b5b2aff4ffb7491341c951470c0cda346884ca3178d31e3c55\n",
+    "call 20 0 0 1 0000000080010000\n",
+    "deny 22 0 1 fetch 0000000080011\n",
+    "stop 22 0 1 0000000080011000\n",
+    "trap 22 0 0000000000000001 0000000080011000\n",
+    "deny 29 0 0 fetch 0000000080011\n",
+    "trap 29 0 0000000000000001 0000000080011000\n",
+    "call 40 0 0 2 0000000080012000\n",
+    "deny 42 0 2 fetch 0000000080013\n",
+    "stop 42 0 2 0000000080013000\n",
+    "trap 42 0 0000000000000001 0000000080013000\n",
+    "trap 50 0 0000000000000003 0000000080013004\n",
+    "evict 56 0 1 1\n",
+    "evict 60 0 2 1\n",
+    "end 66 shutdown 3057a1f6a9caceb4f9d05607b7f085703484a4a7868493c8e913bfcf42369ea9\n",
+];
+
 // A timer stops a module whose registers are their numbers. No register is left, and the status
 // tells that interrupts were enabled in mode S. A return to the module's pc resumes it, and every
 // register is back.
@@ -1235,12 +1613,18 @@ const WRONG_RESUMPTION_LINES: [&str; 17] = [
     "end 117 shutdown f710794b7c9fbac4722b8353a24cb31b7604a68d2be2557eebe6eac43a24b941\n",
 ];
 
-const GUESTS: [Guest<'static>; 14] = [
+const GUESTS: [Guest<'static>; 18] = [
     Guest {
         code: &ACCEPTED_CODE,
         tables: &ACCEPTED_TABLES,
         steps: 60_000,
         lines: &ACCEPTED_LINES,
+    },
+    Guest {
+        code: &ACCEPTER_GONE_CODE,
+        tables: &ACCEPTER_GONE_TABLES,
+        steps: 60_000,
+        lines: &ACCEPTER_GONE_LINES,
     },
     Guest {
         code: &CALL_AGAIN_CODE,
@@ -1259,6 +1643,12 @@ const GUESTS: [Guest<'static>; 14] = [
         tables: &CALL_REFUSALS_TABLES,
         steps: 60_000,
         lines: &CALL_REFUSALS_LINES,
+    },
+    Guest {
+        code: &EVICT_CHAIN_CODE,
+        tables: &EVICT_CHAIN_TABLES,
+        steps: 60_000,
+        lines: &EVICT_CHAIN_LINES,
     },
     Guest {
         code: &HYPERVISOR_CODE,
@@ -1289,6 +1679,18 @@ const GUESTS: [Guest<'static>; 14] = [
         tables: &MODULE_ACCESSES_TABLES,
         steps: 60_000,
         lines: &MODULE_ACCESSES_LINES,
+    },
+    Guest {
+        code: &OFFERER_GONE_CODE,
+        tables: &OFFERER_GONE_TABLES,
+        steps: 60_000,
+        lines: &OFFERER_GONE_LINES,
+    },
+    Guest {
+        code: &STOPPED_OUTSIDE_CODE,
+        tables: &STOPPED_OUTSIDE_TABLES,
+        steps: 60_000,
+        lines: &STOPPED_OUTSIDE_LINES,
     },
     Guest {
         code: &TIMER_CODE,
@@ -1323,6 +1725,6 @@ const GUESTS: [Guest<'static>; 14] = [
 ];
 
 #[test]
-fn modules_are_called_stopped_and_resumed(rt: HostRuntime) {
+fn modules_are_called_stopped_resumed_and_evicted(rt: HostRuntime) {
     expect_guests(&rt, rt.alloc(), &GUESTS);
 }
