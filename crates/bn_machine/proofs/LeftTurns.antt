@@ -11,16 +11,6 @@ use Rattle.bn_model.specs.Deciding.{decision_by_state, decision_of_evict, decisi
 use Rattle.bn_model.specs.Records.{get_word, words_of}
 use Rattle.bn_machine.specs.Built.{is_built_turn}
 
-pub evict_unbuilt : (rd : Reg) (id count : ℕ) (row : Option Row)
-    → is_built_turn (decision_of_evict rd id count row) ≡ false
-evict_unbuilt rd id count None = refl
-evict_unbuilt rd id count (Some row) = go row.state where
-  go : (state : RowState) → is_built_turn (decision_by_state rd id count state) ≡ false
-  go Idle = refl
-  go (Running hart) = refl
-  go (Waiting callee) = refl
-  go Stopped = refl
-
 pub set_unbuilt : (rd : Reg) (records : List Record) (who : Digest) (index value : ℕ)
     (refusal : Option SetRefused)
     → is_built_turn (decision_of_set rd records who index value refusal) ≡ false

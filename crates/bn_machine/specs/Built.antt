@@ -7,7 +7,8 @@ use Rattle.bn_types.specs.declared.request.Request.TheVariants as request
 use Rattle.bn_model.specs.Deciding.{decision_of}
 use Rattle.bn_model.specs.Decision.{Decision, Rest, Trap, Deny, Next, Set, Jump, Store, Csr}
 use Rattle.bn_model.specs.Decision.{ReturnFromTrap, Put, Answer, ShutDown, Refuse, Launch}
-use Rattle.bn_model.specs.Decision.{SetTimer, TakeKey, NoKey, Send, Call, Return, Resume, Tell}
+use Rattle.bn_model.specs.Decision.{SetTimer, TakeKey, NoKey, Send, Call, Return, Resume, Evict}
+use Rattle.bn_model.specs.Decision.{Tell}
 use Rattle.bn_model.specs.Reporting as flat
 use Rattle.bn_model.specs.Reporting.{Files, Report}
 use Rattle.bn_model.specs.State.{State}
@@ -16,6 +17,7 @@ use Rattle.bn_model.specs.State.{State}
 abbrev pub is_built_request : Request → Bool
 is_built_request request.Launch = true
 is_built_request request.Call = true
+is_built_request request.Evict = true
 is_built_request other = false
 
 -- what the code can do already; a turn that isn't built changes nothing and has no line
@@ -41,6 +43,7 @@ is_built_turn (Send mask) = true
 is_built_turn (Call rd callee entry) = true
 is_built_turn (Return caller pc) = true
 is_built_turn (Resume id) = true
+is_built_turn (Evict rd id count) = true
 is_built_turn (Tell rd value) = true
 is_built_turn decision = false
 

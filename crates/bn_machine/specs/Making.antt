@@ -1,14 +1,18 @@
 -- What a turn's methods come to: the decision is made, or it isn't built and nothing changes.
 use Rattle.std.specs.Prelude.{◌≡◌, ℕ, suc, ◌<◌, ℤ, true, false, List, [], Result, Ok, Err}
 use Rattle.bn_types.specs.declared.act.Act.{Act}
+use Rattle.bn_types.specs.declared.reg.Reg.{Reg}
+use Rattle.bn_types.specs.declared.request.Request.TheVariants as request
 use Rattle.bn_model.specs.Deciding.{decision_of, decision_of_act, decision_of_asked}
-use Rattle.bn_model.specs.Decision.{Asked, Decision}
+use Rattle.bn_model.specs.Decision.{Asked, Decision, Evict, Refuse}
 use Rattle.bn_model.specs.Refusals.{minus}
 use Rattle.bn_model.specs.Spelling.{text_of}
 use Rattle.bn_model.specs.Rows.{with_row}
 use Rattle.bn_model.specs.State.{State, frame_of, hart_after_stop, hart_at, one_more, with_hart}
 use Rattle.bn_model.specs.Stepping.{after_tick, after_turn, lines_of_turn}
 use Rattle.bn_model.specs.Switching.{row_after_stop}
+use Rattle.bn_table.specs.Evictions.{evict_code}
+use Rattle.bn_table.specs.declared.evict_refused.EvictRefused.{EvictRefused}
 use Rattle.bn_switch.specs.declared.context.Context.{Context}
 use Rattle.bn_machine.specs.declared.unbuilt.Unbuilt.{Unbuilt}
 use Rattle.bn_machine.specs.Built.{is_built_turn}
@@ -69,3 +73,8 @@ pub record IsRefusalCode (code : ℤ) : Type 0 where
   pub number : ℕ
   pub small : number < 32
   pub is : code ≡ minus (suc number)
+
+-- what an eviction comes to, by its refusal
+abbrev pub decision_by_refusal : Reg → (id count : ℕ) → Result ℕ EvictRefused → Decision
+decision_by_refusal rd id count (Ok number) = Evict rd id count
+decision_by_refusal rd id count (Err refusal) = Refuse rd request.Evict (evict_code refusal)

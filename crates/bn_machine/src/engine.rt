@@ -12,6 +12,7 @@ use std::marker::Model;
 
 mod calling;
 mod carrying;
+mod evicting;
 mod launching;
 mod making;
 mod offering;

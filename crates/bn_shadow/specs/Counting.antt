@@ -1,13 +1,13 @@
 -- The index of owned pages: how many declarations of live modules each page has.
 use Rattle.std.specs.Prelude.{◌≡◌, ℕ, ◌<◌, ◌≤◌, Bool, true, false, not, count_by, length, List}
-use Rattle.std.specs.Prelude.{slice_index}
-use Rattle.std.specs.List.{All, filter}
+use Rattle.std.specs.Prelude.{◌==◌, ◌&&◌, slice_index}
+use Rattle.std.specs.List.{All, filter, list_any}
 use Rattle.bn_types.specs.declared.decl.Decl.{Decl}
 use Rattle.bn_types.specs.declared.row.Row.{Row}
 use Rattle.bn_model.specs.declared.owner.Owner.{Owner}
-use Rattle.bn_model.specs.Evicting.{is_among}
+use Rattle.bn_model.specs.Evicting.{is_among, is_given_up}
 use Rattle.bn_model.specs.Launching.{is_same_page}
-use Rattle.bn_model.specs.Owners.{claims, is_module, is_on}
+use Rattle.bn_model.specs.Owners.{claims, claims_by, is_module, is_on, is_own}
 
 -- the live modules with what they declare, and how many pages RAM has
 pub record Entered : Type 0 where
@@ -44,3 +44,11 @@ count_if false page decls = 0
 -- these declarations are of pages of RAM
 abbrev pub LieInRam : (ram : ℕ) → List Decl → Type 0
 LieInRam ram decls = All (λ (decl : Decl). decl.gpn.0 < ram) decls
+
+-- a declaration of the page as one of the module's own
+abbrev pub is_own_on : ℕ → Decl → Bool
+is_own_on page decl = is_own decl.sort && (decl.gpn.0 == page)
+
+-- a module whose row goes has the page as its own
+abbrev pub gives_up : List Row → ℕ → Owner → Bool
+gives_up gone page owner = list_any (is_given_up gone page) (claims_by owner)

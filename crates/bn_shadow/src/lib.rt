@@ -5,6 +5,7 @@ pub use shadow::Shadow;
 
 mod counts;
 mod dropping;
+mod giving;
 mod search;
 mod shadow;
 #[cfg(test)]

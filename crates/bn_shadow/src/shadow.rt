@@ -1,12 +1,15 @@
 ghost use Rattle.std.specs.Prelude.{◌≡◌, ◌+◌, ◌<◌, ◌++◌, [], ◌∷◌, IfOk, if◌then◌else◌, length};
 ghost use Rattle.bn_types.specs.declared.kind.Kind.TheVariants.{Fetch, Load, Store};
 ghost use Rattle.bn_model.specs.Admission.{admits, admits_declared, has_right};
-ghost use Rattle.bn_model.specs.Owners.{is_owned};
+ghost use Rattle.std.specs.List.{list_any};
+ghost use Rattle.bn_model.specs.Evicting.{is_given_up};
+ghost use Rattle.bn_model.specs.Owners.{claims, is_owned};
 ghost use Rattle.bn_model.specs.Rows.{owner_of};
 ghost use Rattle.bn_shadow.specs.Counting.{IsCounted, LieInRam, owners_without};
 
 use crate::counts::{copy_of, count_row, is_counted, zero_counts};
 use crate::dropping::{discount, drop_owner};
+use crate::giving;
 use crate::search::{declaration_in, holds, is_free_to_leave, is_sourced};
 use arrayvec::ArrayVec;
 use bn_model::Owner;
@@ -104,6 +107,14 @@ impl Shadow {
         let decls = copy_of(&row.judged.decls);
         count_row(&mut self.counts, &decls);
         self.live.push(Owner { id: row.id, decls });
+    }
+
+    /// Whether the page is a private or offered page of a module whose row is among these.
+    #[tactic(auto, using(crate::proofs::GivingLemmas::given_owned))]
+    pub fn gives_up(&self, gone: &[Row], page: Gpn) -> bool
+        ensures { result ≡ list_any (is_given_up gone.now page.0) (claims self.now.live) }
+    {
+        self.owned(page) && giving::is_given_up(&self.live, gone, page)
     }
 
     /// Takes out the declarations of a module that is evicted. Nothing changes where it isn't

@@ -23,6 +23,8 @@ use std::alloc::Global;
 use std::marker::Model;
 use std::sync::ledger::Ledger;
 
+mod releasing;
+
 /// The physical page number at which RAM begins, that of guest physical address 0x80000000.
 const RAM_START: u64 = 0x80000;
 

@@ -1,12 +1,12 @@
 //! What turns come to, made: each of these ends an event.
-ghost use Rattle.std.specs.Prelude.{◌≡◌, ◌≢◌, ◌-◌, ◌^◌, ◌<◌, ◌≤◌, ◌%◌, ◌++◌, ℕ, [], length};
+ghost use Rattle.std.specs.Prelude.{◌≡◌, ◌≢◌, ◌-◌, ◌^◌, ◌<◌, ◌≤◌, ◌%◌, ◌++◌, ◌∷◌, ℕ, [], length};
 ghost use Rattle.bn_types.specs.declared.line.Line.TheVariants as line;
 ghost use Rattle.bn_model.specs.Decision as turn;
 ghost use Rattle.bn_model.specs.Refusals.{minus, minus_in_64_bits};
 ghost use Rattle.bn_model.specs.Each.{each};
 ghost use Rattle.bn_model.specs.Soundness.{IsSound};
 ghost use Rattle.bn_model.specs.State.{hart_after_trap, hart_at, with_hart};
-ghost use Rattle.bn_model.specs.Spelling.{spelling};
+ghost use Rattle.bn_model.specs.Spelling.{spelling, text_of};
 ghost use Rattle.bn_model.specs.Stepping.{after_launch, after_tick, hart_by_mask};
 ghost use Rattle.bn_model.specs.Walking as walking;
 ghost use Rattle.bn_machine.specs.Making.{IsRefusalCode, state_after, text_after};
@@ -237,6 +237,33 @@ impl Engine {
             None => unreachable!(),
         }
         id
+    }
+
+    /// Tells of an eviction that was made, and sets rd to 0.
+    pub(super) fn finish_eviction(
+        &mut self,
+        hart: u8,
+        rd: Reg,
+        id: ModId,
+        count: u8,
+        lines: &mut LineBuf,
+    )
+        requires hart { hart < length self.old.state.harts }
+        requires clock { self.old.state.clock < 2 ^ 64 - 1 }
+        requires register { rd.0 < 32 }
+        requires empty { lines.old ≡ [] }
+        ensures stepped { self.new.state ≡ state_after self.old.state hart (turn.Tell rd 0) }
+        ensures told { lines.new
+            ≡ text_of (line.Evict self.old.state.clock hart id count ∷ []) }
+    {
+        lines.push(&Line::Evict {
+            n: self.clock,
+            h: hart,
+            m: id,
+            k: count,
+        });
+        self.harts[hart as usize].go_on_with(rd, 0);
+        self.clock += 1;
     }
 
     pub(super) fn return_from_trap(&mut self, hart: u8)

@@ -4,11 +4,9 @@ ghost use Rattle.std.specs.Option.{option_copied};
 ghost use Rattle.bn_types.specs.Numbers.{number_at};
 ghost use Rattle.bn_types.specs.declared.digest.Digest.{Digest};
 ghost use Rattle.bn_types.specs.declared.width.Width.TheVariants.{B8};
-ghost use Rattle.bn_model.specs.Deciding.{caller_of, decision_of_evict, decision_of_secure};
+ghost use Rattle.bn_model.specs.Deciding.{caller_of, decision_of_secure};
 ghost use Rattle.bn_model.specs.Deciding.{enclave_at, identity_word, word_if};
-ghost use Rattle.bn_model.specs.Evicting.{evicted_rows};
 ghost use Rattle.bn_model.specs.InsnRanges.{IsSecureInRange};
-ghost use Rattle.bn_model.specs.Legality as flat_legality;
 ghost use Rattle.bn_model.specs.Records.{get_word};
 ghost use Rattle.bn_model.specs.Rows.{enclaves, row_of};
 ghost use Rattle.bn_model.specs.Soundness.{IsSound};
@@ -20,7 +18,7 @@ use crate::engine::Engine;
 use crate::engine::turning::ILLEGAL_INSTRUCTION;
 use crate::{LineBuf, Unbuilt};
 use bn_table::Table;
-use bn_types::{Digest, ModId, Mode, Reg, Row, Secure, Steps};
+use bn_types::{Digest, ModId, Reg, Row, Secure, Steps};
 use std::sync::ledger::Ledger;
 
 impl Engine {
@@ -59,7 +57,7 @@ impl Engine {
         }
     }
 
-    /// What mode S of the untrusted world may ask for. Evictions aren't built yet.
+    /// What mode S of the untrusted world may ask for.
     #[tactic(auto, using(crate::proofs::Inside::kernel_inside, crate::proofs::Inside::kernel_outside))]
     fn carry_out_for_kernel<L: Ledger>(
         &mut self,
@@ -87,30 +85,12 @@ impl Engine {
                 self.launch_or_trap(h, *rd, at, lines, steps);
                 Ok(())
             }
-            Secure::Evict { rd, id } => self.refuse_user(h, *rd, *id, lines),
-            _ => unreachable!(),
-        }
-    }
-
-    /// Evictions, of which those in mode U alone are built yet: they trap.
-    #[tactic(auto, using(crate::proofs::LeftTurns::evict_unbuilt))]
-    fn refuse_user(&mut self, h: u8, rd: Reg, id: Reg, lines: &mut LineBuf) -> Result<(), Unbuilt>
-        requires sound { IsSound self.old.state }
-        requires hart { h < length self.old.state.harts }
-        requires clock { self.old.state.clock < 2 ^ 64 - 1 }
-        requires empty { lines.old ≡ [] }
-        ensures made { let s = self.old.state in let hart = hart_at s h in
-            let id = value_of hart id in
-            Makes result self.old.state self.new.state lines.new h
-            (flat_legality.supervisor_only hart.mode
-            (decision_of_evict rd id (length (evicted_rows s.rows id)) (row_of s.rows id))) }
-    {
-        match self.harts[h as usize].mode() {
-            Mode::S => Err(Unbuilt),
-            Mode::U => {
-                self.trap(h, ILLEGAL_INSTRUCTION, 0, lines);
+            Secure::Evict { rd, id } => {
+                let id = self.register(h, *id);
+                self.evict_or_trap(h, *rd, id, lines, steps);
                 Ok(())
             }
+            _ => unreachable!(),
         }
     }
 
