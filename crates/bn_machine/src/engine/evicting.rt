@@ -19,6 +19,7 @@ use std::sync::ledger::Ledger;
 
 impl Engine {
     /// The eviction of a module, which mode U may not ask for.
+    #[inline(never)]
     pub(super) fn evict_or_trap<L: Ledger>(
         &mut self,
         h: u8,

@@ -19,6 +19,7 @@ use std::sync::ledger::Ledger;
 
 impl Engine {
     /// The launch of the segment text at a virtual address, which mode U may not ask for.
+    #[inline(never)]
     pub(super) fn launch_or_trap<L: Ledger>(
         &mut self,
         h: u8,
