@@ -70,6 +70,13 @@ unfolding decision_of
 decision_of-blanked m s h within sound rest =
     decision-blanked m s sound.claims.alone h (hart_at s h) (rests-apart m s h rest within)
 
+-- what a turn comes to doesn't depend on a resting module's secrets
+pub decision-blank : (m : ℕ) (s : State) (h : ℕ) → h < length s.harts → IsSound s
+    → rests m s ≡ true → decision_of (blank m s) h ≡ decision_of s h
+decision-blank m s h within sound rest =
+    ap (λ (t : State). decision_of t h) (blank-rests m s rest)
+    ∙ decision_of-blanked m s h within sound rest
+
 lines-blanked : (m : ℕ) (s : State) (e : Event) → Fits s e → IsSound s → rests m s ≡ true
     → lines (blanked m s) e ≡ lines s e
 unfolding lines

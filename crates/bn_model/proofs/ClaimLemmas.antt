@@ -148,10 +148,10 @@ admitted-other owners alone m id vpn page kind other e =
 -- ---- owners one by one
 
 -- module `id` makes a private declaration for the page
-is_private_for : (id page : ℕ) → Owner → Bool
+unfoldable pub is_private_for : (id page : ℕ) → Owner → Bool
 is_private_for id page owner = list_any (is_private_of id page) (claims_by owner)
 
-private-pages : (owners : List Owner) (id page : ℕ)
+pub private-pages : (owners : List Owner) (id page : ℕ)
     → is_private_page owners id page ≡ list_any (is_private_for id page) owners
 unfolding claims is_private_for
 private-pages owners id page = any-flat_map (is_private_of id page) claims_by owners
@@ -162,7 +162,7 @@ has-owner id [] claim h = absurd h
 has-owner id (decl ∷ decls) claim (inl is) = ap (λ (c : Claim). c.owner) is
 has-owner id (decl ∷ decls) claim (inr h) = has-owner id decls claim h
 
-private-for : (id page : ℕ) (owner : Owner) → is_private_for id page owner ≡ true → owner.id.0 ≡ id
+pub private-for : (id page : ℕ) (owner : Owner) → is_private_for id page owner ≡ true → owner.id.0 ≡ id
 unfolding is_private_for
 private-for id page owner e =
     let found = any-has (is_private_of id page) (claims_by owner) e in

@@ -1,6 +1,6 @@
 -- Laws of a change of each element by its place.
-use Rattle.std.proofs.Common.{◌≡◌, ℕ, zero, suc, ◌+◌, ◌<◌, List, [], ◌∷◌, length, get_or, set}
-use Rattle.std.proofs.Common.{slice_get, Some, option_map, refl, ap, ap₂, ◌∙◌, arith, zero-add}
+use Rattle.std.proofs.Common.{◌≡◌, ℕ, zero, suc, ◌+◌, ◌<◌, ◌≤◌, List, [], ◌∷◌, length, get_or, set}
+use Rattle.std.proofs.Common.{slice_get, Some, option_map, refl, sym, ap, ap₂, ◌∙◌, arith, zero-add}
 use Rattle.bn_model.specs.Each.{each}
 
 pub length-each : {X Y : Type 0} (f : ℕ → X → Y) (i : ℕ) (xs : List X)
@@ -89,3 +89,34 @@ pub each-kept : {X : Type 0} (f : ℕ → X → X) → ((k : ℕ) (x : X) → f 
 each-kept f kept i [] = refl
 each-kept f kept i (x ∷ xs) =
     ap₂ (λ (y : _) (ys : List _). y ∷ ys) (kept i x) (each-kept f kept (suc i) xs)
+
+later-same : {X Y : Type 0} (f g : ℕ → X → Y) (i : ℕ) (xs : List X)
+    → ((k : ℕ) (x : X) → i ≤ k → f k x ≡ g k x) → each f i xs ≡ each g i xs
+later-same f g i [] same = refl
+later-same f g i (x ∷ xs) same =
+    ap₂ (λ (y : _) (ys : List _). y ∷ ys) (same i x (omega arith))
+    (later-same f g (suc i) xs (λ k z from. same k z (omega arith)))
+
+more-from : {X Y : Type 0} (f g : ℕ → X → Y) (i k : ℕ) (y : Y) (xs : List X)
+    → ((x : X) → g (i + k) x ≡ y) → ((j : ℕ) (x : X) → (j ≡ i + k → ⊥) → f j x ≡ g j x)
+    → set (each f i xs) k y ≡ each g i xs
+more-from f g i k y [] there elsewhere = refl
+more-from f g i zero y (x ∷ xs) there elsewhere =
+    let place : i ≡ i + 0 = omega arith in
+    ap₂ (λ (z : _) (zs : List _). z ∷ zs)
+    (sym (ap (λ (n : ℕ). g n x) place ∙ there x))
+    (later-same f g (suc i) xs (λ j z from. elsewhere j z (λ is. omega arith)))
+more-from f g i (suc k) y (x ∷ xs) there elsewhere =
+    let place : suc i + k ≡ i + suc k = omega arith in
+    ap₂ (λ (z : _) (zs : List _). z ∷ zs)
+    (elsewhere i x (λ is. omega arith))
+    (more-from f g (suc i) k y xs (λ z. ap (λ (n : ℕ). g n z) place ∙ there z)
+    (λ j z apart. elsewhere j z (λ is. apart (is ∙ sym place))))
+
+-- a change that does this at one place, and what another does at all others
+pub each-more : {X Y : Type 0} (f g : ℕ → X → Y) (k : ℕ) (y : Y) (xs : List X)
+    → ((x : X) → g k x ≡ y) → ((j : ℕ) (x : X) → (j ≡ k → ⊥) → f j x ≡ g j x)
+    → set (each f 0 xs) k y ≡ each g 0 xs
+each-more f g k y xs there elsewhere =
+    more-from f g 0 k y xs (λ x. ap (λ (n : ℕ). g n x) (zero-add k) ∙ there x)
+    (λ j x apart. elsewhere j x (λ is. apart (is ∙ sym (zero-add k))))

@@ -4,6 +4,7 @@ pub mod ActRanges
 pub mod ActingLemmas
 pub mod AsleepKept
 pub mod AssemblingLemmas
+pub mod BeforeLemmas
 pub mod BlankDecisions
 pub mod BlankLemmas
 pub mod BlankPages
@@ -36,6 +37,7 @@ pub mod NestingLaws
 pub mod PageNumbers
 pub mod PagesKept
 pub mod PlacingLaws
+pub mod PrivateRows
 pub mod RecordLemmas
 pub mod RegisterLemmas
 pub mod RestingLemmas
@@ -57,6 +59,7 @@ pub mod Switches
 pub mod TestLemmas
 pub mod TouchLemmas
 pub mod TurnKinds
+pub mod UnseenLemmas
 pub mod ValueRanges
 pub mod VisiblePages
 pub mod WalkFacts

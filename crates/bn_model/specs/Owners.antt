@@ -45,6 +45,10 @@ is_own Private = true
 is_own Offer = true
 is_own Accept = false
 
+-- a declaration makes the page private
+abbrev pub is_private_at : ℕ → Decl → Bool
+is_private_at page decl = is_private decl.sort && (decl.gpn.0 == page)
+
 abbrev pub is_private_of : ℕ → ℕ → Claim → Bool
 is_private_of id page claim = (claim.owner.0 == id) && is_private claim.decl.sort && is_on page
     claim

@@ -86,7 +86,8 @@ report_of_load is_built Unbuilt order = unbuilt
 report_of_load is_built (Faulty fault) order =
     record { status = status.Image; text = fault_line fault }
 report_of_load is_built (Ram image) order =
-    report_of_course (course is_built None (opening order.ram_pages 1 image []) (turns order.steps))
+    report_of_course
+    (course is_built order.blind (opening order.ram_pages 1 image []) (turns order.steps))
 
 abbrev pub missing : Report
 missing = record { status = status.NoFile; text = codes "missing image\n" }

@@ -20,6 +20,10 @@ pub record Blind : Type 0 where
   pub blinded : ModId
   pub event : ℕ
 
+abbrev pub blind_at : Option (ModId × ℕ) → Option Blind
+blind_at None = None
+blind_at (Some pair) = Some (record { blinded = pair.0; event = pair.1 })
+
 abbrev pub blank_when : Bool → ℕ → State → State
 blank_when true m s = blank m s
 blank_when false m s = s
@@ -94,6 +98,13 @@ Reaches blind s (next ∷ events) before event =
     (s.off ≡ false) ×
     (IsNext blind s next before event ⊎ Reaches blind (step (state_before blind s) next) events
     before event)
+
+-- a run comes to this state, with these events ahead of it; it may have been shut down on the way
+pub record ComesTo (blind : Option Blind) (start : State) (events : List Event) (s : State)
+    (ahead : List Event) : Type 0 where
+  pub made : List Event
+  pub split : events ≡ made ++ ahead
+  pub stands : s ≡ (run blind start made).last
 
 -- A run that stops before its end, since the lines of an event couldn't all be written: it made
 -- that event, wrote the lines of all events before it, and of its own a proper front.

@@ -3,13 +3,17 @@ use Rattle.std.specs.Prelude.{ℕ, ◌==◌, Bool, true, false, ◌&&◌, not, n
 use Rattle.std.specs.Prelude.{decimal, Option, Some, None, unwrap_or}
 use Rattle.std.specs.Str.{bytes_eq, is_utf8}
 use Rattle.std.specs.Str.Parse.{digits_value}
+use Rattle.bn_types.specs.Splitting.{split_by}
+use Rattle.bn_types.specs.declared.mod_id.ModId.{ModId}
 use Rattle.bn_model.specs.declared.run_options.RunOptions.{RunOptions}
+use Rattle.bn_model.specs.Running.{Blind, blind_at}
 
--- a run of an image: its file's name, the pages of RAM and the most events
+-- a run of an image: its file's name, the pages of RAM, the most events, and what is zeroed when
 pub record RunOrder : Type 0 where
   pub image : List ℕ
   pub ram_pages : ℕ
   pub steps : ℕ
+  pub blind : Option Blind
 
 -- ---- numbers
 
@@ -30,10 +34,26 @@ number_between least most word =
     number_if (is_number word && is_between least most (digits_value 10 word))
     (digits_value 10 word)
 
+-- ---- a module and an event
+
+abbrev pub blind_with : Option ℕ → Option ℕ → Option (ModId × ℕ)
+blind_with (Some m) (Some event) = Some (record { 0 = m }, event)
+blind_with (Some m) None = None
+blind_with None event = None
+
+abbrev pub blind_in : List (List ℕ) → Option (ModId × ℕ)
+blind_in (m ∷ event ∷ []) =
+    blind_with (number_between 1 65535 m) (number_between 0 1000000000 event)
+blind_in pieces = None
+
+-- `M@K`: a module, and the number of an event
+unfoldable pub blind_of : List ℕ → Option (ModId × ℕ)
+blind_of word = blind_in (split_by 64 word)
+
 -- ---- options
 
 abbrev pub no_options : RunOptions
-no_options = record { ram_pages = None; steps = None }
+no_options = record { ram_pages = None; steps = None; blind = None }
 
 -- an option is given at most once
 abbrev pub with_ram : RunOptions → Option ℕ → Option ℕ → Option RunOptions
@@ -46,17 +66,27 @@ with_steps options None (Some n) = Some (record options { steps = Some n })
 with_steps options None None = None
 with_steps options (Some n) value = None
 
-abbrev pub with_option_if : (is_ram is_steps : Bool) → RunOptions → List ℕ → Option RunOptions
-with_option_if true is_steps options value = with_ram options options.ram_pages
-    (number_between 16 4096 value)
-with_option_if false true options value = with_steps options options.steps
-    (number_between 0 1000000000 value)
-with_option_if false false options value = None
+abbrev pub with_blind :
+    RunOptions → Option (ModId × ℕ) → Option (ModId × ℕ) → Option RunOptions
+with_blind options None (Some blind) = Some (record options { blind = Some blind })
+with_blind options None None = None
+with_blind options (Some blind) value = None
 
--- `--ram` has from 16 to 4,096 pages, `--steps` from 0 to 1,000,000,000 events
+abbrev pub with_option_if :
+    (is_ram is_steps is_blind : Bool) → RunOptions → List ℕ → Option RunOptions
+with_option_if true is_steps is_blind options value = with_ram options options.ram_pages
+    (number_between 16 4096 value)
+with_option_if false true is_blind options value = with_steps options options.steps
+    (number_between 0 1000000000 value)
+with_option_if false false true options value = with_blind options options.blind (blind_of value)
+with_option_if false false false options value = None
+
+-- `--ram` has from 16 to 4,096 pages, `--steps` from 0 to 1,000,000,000 events, and `--blind` a module
+-- and an event
 unfoldable pub with_option : RunOptions → List ℕ → List ℕ → Option RunOptions
 with_option options name value =
-    with_option_if (bytes_eq name (codes "--ram")) (bytes_eq name (codes "--steps")) options value
+    with_option_if (bytes_eq name (codes "--ram")) (bytes_eq name (codes "--steps"))
+    (bytes_eq name (codes "--blind")) options value
 
 -- the options of words in pairs, a name and a value
 unfoldable pub options_of : Option RunOptions → List (List ℕ) → Option RunOptions
@@ -75,7 +105,8 @@ is_name (first ∷ rest) = not (first == 45)
 abbrev pub is_plain : List ℕ → Bool
 is_plain word = is_utf8 word && is_name word
 
--- RAM has 1,024 pages and a run at most 1,000,000 events where no option says otherwise
+-- RAM has 1,024 pages, a run at most 1,000,000 events, and nothing is zeroed, where no option says
+-- otherwise
 abbrev pub order_with : List ℕ → Option RunOptions → Option RunOrder
 order_with image None = None
 order_with image (Some options) =
@@ -84,6 +115,7 @@ order_with image (Some options) =
       ram_pages = unwrap_or options.ram_pages 1024;
       steps = unwrap_or
           options.steps 1000000;
+      blind = blind_at options.blind;
     })
 
 abbrev pub order_if : Bool → List ℕ → List (List ℕ) → Option RunOrder

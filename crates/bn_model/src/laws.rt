@@ -1,8 +1,8 @@
 //! The laws of the definitions. Each is the contract of a function that does nothing.
 
 pub use blanking::{
-    digests_no_secrets, keeps_resting, resting_hides_secrets, tells_no_secrets, uses_no_secrets,
-    zeroing_changes_nothing,
+    digests_no_secrets, keeps_resting, resting_hides_secrets, runs_hide_secrets, tells_no_secrets,
+    uses_no_secrets, zeroing_changes_nothing, zeroing_is_unseen,
 };
 pub use instruction_table::{follows_table, keeps_ranges, one_insn, one_word};
 pub use running::runs_append;

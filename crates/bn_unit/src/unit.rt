@@ -23,6 +23,7 @@ use std::alloc::Global;
 use std::marker::Model;
 use std::sync::ledger::Ledger;
 
+mod blanking;
 mod releasing;
 
 /// The physical page number at which RAM begins, that of guest physical address 0x80000000.

@@ -1,7 +1,8 @@
 //! The laws of a resting module's secrets.
 ghost use Rattle.bn_model.specs.BlankingLaws.{DigestsNoSecrets, KeepsResting};
-ghost use Rattle.bn_model.specs.BlankingLaws.{RestingHidesSecrets, TellsNoSecrets};
+ghost use Rattle.bn_model.specs.BlankingLaws.{RestingHidesSecrets, RunsHideSecrets, TellsNoSecrets};
 ghost use Rattle.bn_model.specs.BlankingLaws.{UsesNoSecrets, ZeroingChangesNothing};
+ghost use Rattle.bn_model.specs.BlankingLaws.{ZeroingIsUnseen};
 
 /// The digest of the public pages is the same without the secrets of a module.
 pub fn digests_no_secrets()
@@ -32,4 +33,15 @@ pub fn zeroing_changes_nothing()
 /// Two states that differ in a resting module's secrets alone tell the same until it runs.
 pub fn resting_hides_secrets()
     ensures { RestingHidesSecrets }
+{}
+
+/// A run from a sound state shows nothing of the secrets of a module while it rests.
+pub fn runs_hide_secrets()
+    ensures { RunsHideSecrets }
+{}
+
+/// Zeroing a module's secrets just before an event changes nothing of what a run tells while the
+/// module rests.
+pub fn zeroing_is_unseen()
+    ensures { ZeroingIsUnseen }
 {}

@@ -1,5 +1,5 @@
 //! What modules that go leave of memory.
-ghost use Rattle.std.specs.Prelude.{◌≡◌, ◌<◌, List, slice_set};
+ghost use Rattle.std.specs.Prelude.{◌≡◌, ◌+◌, ◌<◌, List, slice_set};
 ghost use Rattle.bn_types.specs.Numbers.{page_at, zero_page};
 ghost use Rattle.bn_types.specs.declared.row.Row.{Row};
 ghost use Rattle.bn_model.specs.Evicting.{page_left, pages_left, rows_left};
@@ -59,12 +59,14 @@ impl Unit {
         }
     }
 
-    fn zero_page<L: Ledger>(&mut self, page: Gpn, steps: &mut Steps<L>)
+    /// Zeroes a page of RAM.
+    pub(super) fn zero_page<L: Ledger>(&mut self, page: Gpn, steps: &mut Steps<L>)
         requires inside { page.0 < self.old.nest.ram }
         ensures pages { contents self.new.nest ≡ slice_set (contents self.old.nest) page.0 zero_page }
         ensures live { self.new.live ≡ self.old.live }
         ensures nested { IsNested self.new.nest }
         ensures ram { self.new.nest.ram ≡ self.old.nest.ram }
+        ensures read { steps.new ≡ steps.old + 3 }
     {
         let frame = self.frame_of(page, steps);
         self.nest.zero(frame);
