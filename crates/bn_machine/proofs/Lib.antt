@@ -1,3 +1,4 @@
+pub mod BlindWords
 pub mod Filling
 pub mod Harts
 pub mod Identities
@@ -14,3 +15,4 @@ pub mod Stories
 pub mod LeftTurns
 pub mod Wrote
 mod Turns
+pub mod ZeroedPages

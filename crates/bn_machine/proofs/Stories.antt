@@ -14,18 +14,20 @@ use Rattle.bn_model.specs.Loading.{Load, Ram, Faulty, Unbuilt, load_of}
 use Rattle.bn_model.specs.Reporting.{Files, Report, closing, most_image_bytes, report_of}
 use Rattle.bn_model.specs.Reporting.{report_of_course, report_of_file, report_of_load}
 use Rattle.bn_model.specs.Reporting.{report_of_order}
-use Rattle.bn_model.specs.Running.{Course}
+use Rattle.bn_model.specs.Running.{Blind, Course}
 use Rattle.bn_model.specs.Spelling.{text_of}
 use Rattle.bn_model.specs.State.{State}
+use Rattle.bn_model.specs.WholeRuns.{Start}
 use Rattle.bn_model.specs.Words.{RunOrder, order_of}
 use Rattle.bn_machine.specs.Built.{is_built_event}
 use Rattle.bn_model.proofs.ChangeLemmas.{changes-are-touched}
 use Rattle.bn_model.proofs.StartLemmas.{modules-start}
 use Rattle.bn_model.proofs.TouchLemmas.{touches-are-admitted}
-use Rattle.bn_machine.specs.Headline.{CountsMiss, IsAdmitted, IsDue, IsQuiet, Outside, Promise}
+use Rattle.bn_machine.specs.Headline.{AreBlinded, CountsMiss, IsAdmitted, IsDue, IsQuiet}
+use Rattle.bn_machine.specs.Headline.{Outside, Promise, WriteAlike}
 use Rattle.bn_machine.specs.Headline.{StartsModules, WritesReport}
 use Rattle.bn_machine.specs.Runs.{HoldBytes, RunMakes}
-use Rattle.bn_machine.proofs.Reached.{reached-sound}
+use Rattle.bn_machine.proofs.Reached.{hidden-secrets, reached-sound, written-alike}
 use Rattle.bn_machine.specs.Story.{Answers, CountsSinkFault, IsStory, WasDue}
 use Rattle.bn_machine.specs.Telling.{FinishesRun}
 use Rattle.bn_machine.proofs.Wrote.{appended-append}
@@ -180,6 +182,13 @@ starts words files s event bytes made h m before after =
     let reached = reached-sound words files s event bytes made in
     modules-start s event h m reached.1 reached.0 before after
 
+written : (words : List (List ℕ)) (files : Files) (start : Start) (others : List (List ℕ))
+    (blind : Blind) → HoldBytes files → AreBlinded words others files start blind
+    → WriteAlike (report_of is_built_event words files) (report_of is_built_event others files)
+    start blind
+written words files start others blind bytes both =
+    written-alike words others files start blind bytes both
+
 -- ---- the promise
 
 -- a report was due
@@ -268,6 +277,8 @@ promise words answer.Memory old new s c = record {
   uncounted = λ e. s.missed;
   touched = λ files s event made. admitted s event;
   started = starts words;
+  zeroed = hidden-secrets words;
+  alike = written words;
 }
 promise words answer.SinkFault old new s c =
     let broken = λ (work : IsQuiet old.sink.faults new.sink.faults).
@@ -283,6 +294,8 @@ promise words answer.SinkFault old new s c =
       uncounted = λ e. cc;
       touched = λ files s event made. admitted s event;
       started = starts words;
+      zeroed = hidden-secrets words;
+      alike = written words;
     }
 promise words status old new s c = record {
   exact = λ work memory. reported words old new status s (λ e. cc) (λ e. cc) work.1;
@@ -296,4 +309,6 @@ promise words status old new s c = record {
   uncounted = λ e. cc;
   touched = λ files s event made. admitted s event;
   started = starts words;
+  zeroed = hidden-secrets words;
+  alike = written words;
 }

@@ -1,6 +1,7 @@
 -- What the one public call of the program promises: of its words, its status, and what is known of
 -- the outside before it and after it.
-use Rattle.std.specs.Prelude.{◌≡◌, ◌≢◌, ◌≤◌, ℕ, suc, ◌⊎◌, List, map, codes, Option, Some, None, Vec}
+use Rattle.std.specs.Prelude.{◌≡◌, ◌≢◌, ◌≤◌, ℕ, suc, ◌⊎◌, List, ◌++◌, map, codes, Option, Some, None}
+use Rattle.std.specs.Prelude.{Vec}
 use Rattle.std.specs.declared.alloc.Global.{Global}
 use Rattle.bn_types.specs.Numbers.{page_at}
 use Rattle.bn_types.specs.declared.event.Event.{Event}
@@ -10,15 +11,19 @@ use Rattle.bn_edge.specs.Accounts.{DeskAccount, SinkAccount}
 use Rattle.bn_edge.specs.Counts.{CanCount, IsToldBy, Rises, Stays}
 use Rattle.bn_edge.specs.Files.{file_named}
 use Rattle.bn_edge.specs.Written.{Writes, WritesFront}
+use Rattle.bn_model.specs.BlankingLaws.{HidesSecrets, RestsAfterEach, RestsBeforeEach}
 use Rattle.bn_model.specs.Reporting.{Files, Report, desk_failed}
+use Rattle.bn_model.specs.Running.{Blind}
 use Rattle.bn_model.specs.Soundness.{Has}
+use Rattle.bn_model.specs.Spelling.{text_of}
 use Rattle.bn_model.specs.State.{State, hart_at}
 use Rattle.bn_model.specs.Stepping.{step}
 use Rattle.bn_model.specs.SwitchingLaws.{IsStart}
 use Rattle.bn_model.specs.Touching.{Touch, touch}
 use Rattle.bn_model.specs.TouchingLaws.{IsDeclared, IsGivenUp, IsStored, IsUnowned}
 use Rattle.bn_machine.specs.Built.{report_of}
-use Rattle.bn_machine.specs.Runs.{HoldBytes, RunMakes}
+use Rattle.bn_model.specs.WholeRuns.{Start}
+use Rattle.bn_machine.specs.Runs.{HoldBytes, RunMakes, course_of, start_of}
 
 -- the words as lists of bytes
 abbrev pub bytes_of_words : List (Vec ℕ Global) → List (List ℕ)
@@ -105,6 +110,32 @@ StartsModules s event =
     (hart_at (step s event) h).current.0 ≡ suc m →
     IsStart s (suc m) (hart_at s h) (hart_at (step s event) h)
 
+-- the words order the run that begins so, and the other words the same run with a module's secrets
+-- zeroed before an event
+pub record AreBlinded (words others : List (List ℕ)) (files : Files) (start : Start) (blind : Blind)
+    : Type 0 where
+  pub runs : start_of words files ≡ Some start
+  pub plain : start.blind ≡ None
+  pub blinded : start_of others files ≡ Some (record start { blind = Some blind })
+
+-- two texts that begin with the same
+pub record BeginWith (front one other : List ℕ) : Type 0 where
+  pub rest : List ℕ
+  pub rest_other : List ℕ
+  pub is : one ≡ front ++ rest
+  pub is_other : other ≡ front ++ rest_other
+
+-- Two runs, of which the second differs by a module's secrets alone, from an event on. Where the
+-- module rests before each event from there on, so that at most the last of them starts it, both
+-- write the same lines; where it rests after each of them too, both reports are the same.
+pub record WriteAlike (one other : Report) (start : Start) (blind : Blind) : Type 0 where
+  pub lines :
+      RestsBeforeEach blind.blinded.0 blind.event start.state start.events →
+      BeginWith (text_of (course_of start).told) one.text other.text
+  pub whole :
+      RestsBeforeEach blind.blinded.0 blind.event start.state start.events →
+      RestsAfterEach blind.blinded.0 blind.event start.state start.events → one ≡ other
+
 pub record Promise (words : List (List ℕ)) (status : Status) (old new : Outside) : Type 0 where
   -- where no count of faults rose, the flat machine's report is written, or memory ran out
   pub exact : AllWork old new → status ≢ Memory → WritesReport words status old new
@@ -124,3 +155,12 @@ pub record Promise (words : List (List ℕ)) (status : Status) (old new : Outsid
   -- how modules start in it
   pub started : (files : Files) (s : State) (event : Event) → HoldBytes files →
       RunMakes words files s event → StartsModules s event
+  -- that it shows nothing of a module's private pages and saved registers while the module rests
+  pub zeroed : (files : Files) (start : Start) → HoldBytes files →
+      start_of words files ≡ Some start →
+      HidesSecrets start.blind start.state start.events
+  -- and so zeroing them changes nothing of what is written until the module runs
+  pub alike :
+      (files : Files) (start : Start) (others : List (List ℕ)) (blind : Blind) →
+      HoldBytes files → AreBlinded words others files start blind →
+      WriteAlike (report_of words files) (report_of others files) start blind

@@ -10,3 +10,4 @@ pub mod Runs
 pub mod Standing
 pub mod Story
 pub mod Telling
+pub mod Zeroing

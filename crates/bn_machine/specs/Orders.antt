@@ -2,11 +2,17 @@
 use Rattle.std.specs.Prelude.{◌≤◌, IfSome}
 use Rattle.bn_machine.specs.declared.order.RunOrder.{RunOrder}
 use Rattle.bn_model.specs.declared.run_options.RunOptions.{RunOptions}
+use Rattle.bn_model.specs.Running.{blind_at}
 use Rattle.bn_model.specs.Words as flat
 
 -- its name as bytes
 abbrev pub plain : RunOrder → flat.RunOrder
-plain order = record { image = order.image.now; ram_pages = order.ram_pages; steps = order.steps }
+plain order = record {
+  image = order.image.now;
+  ram_pages = order.ram_pages;
+  steps = order.steps;
+  blind = blind_at order.blind;
+}
 
 -- the machine can run it
 pub record CanRun (order : RunOrder) : Type 0 where

@@ -1,10 +1,10 @@
 -- What a run tells a sink.
-use Rattle.std.specs.Prelude.{◌≡◌, ℕ, List, None}
+use Rattle.std.specs.Prelude.{◌≡◌, ℕ, List, Option}
 use Rattle.bn_edge.specs.Accounts.{SinkAccount}
 use Rattle.bn_edge.specs.Written.{Writes}
 use Rattle.bn_types.specs.declared.ending.Ending.{Ending}
 use Rattle.bn_types.specs.declared.event.Event.{Event}
-use Rattle.bn_model.specs.Running.{Course, StopsWithin}
+use Rattle.bn_model.specs.Running.{Blind, Course, StopsWithin}
 use Rattle.bn_model.specs.Spelling.{text_of}
 use Rattle.bn_model.specs.State.{State}
 
@@ -16,8 +16,9 @@ pub record FinishesRun (run : Course) (reason : Ending) (stopped : State) (old n
   pub written : Writes old new (text_of run.told)
 
 -- a run stops after an event whose lines couldn't all be written
-pub record StopsRun (start stopped : State) (events : List Event) (old new : SinkAccount) : Type 0
+pub record StopsRun (blind : Option Blind) (start stopped : State) (events : List Event)
+    (old new : SinkAccount) : Type 0
   where
     pub text : List ℕ
-    pub stops : StopsWithin None start stopped events text
+    pub stops : StopsWithin blind start stopped events text
     pub written : Writes old new text

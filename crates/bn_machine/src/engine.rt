@@ -10,6 +10,7 @@ use bn_types::ModId;
 use bn_unit::Unit;
 use std::marker::Model;
 
+mod blanking;
 mod calling;
 mod carrying;
 mod evicting;

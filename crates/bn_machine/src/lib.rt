@@ -9,6 +9,7 @@ pub use settings::Settings;
 pub use top::bastion;
 pub use unbuilt::Unbuilt;
 
+mod blinding;
 mod engine;
 mod hart;
 mod load;

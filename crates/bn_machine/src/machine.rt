@@ -3,6 +3,7 @@ ghost use Rattle.std.specs.Prelude.{◌≡◌};
 use crate::engine::Engine;
 use std::marker::Model;
 
+mod blanking;
 mod booting;
 mod digesting;
 mod running;

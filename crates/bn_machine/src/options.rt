@@ -4,8 +4,10 @@ ghost use Rattle.bn_machine.specs.Headline.{bytes_of_words};
 ghost use Rattle.bn_machine.specs.Orders.{AreInRange};
 ghost use Rattle.bn_model.specs.Words as flat;
 
+use crate::blinding::blind_of;
 use crate::number::number_between;
 use bn_model::RunOptions;
+use bn_types::ModId;
 
 /// The options that words in pairs, a name and a value, add to others. None exactly where a name is
 /// none, comes twice or lacks a value that it takes.
@@ -35,6 +37,8 @@ fn with_option(options: RunOptions, name: &[u8], value: &[u8]) -> Option<RunOpti
         with_ram(options, number_between(value, 16, 4096))
     } else if name == b"--steps".as_slice() {
         with_steps(options, number_between(value, 0, 1_000_000_000))
+    } else if name == b"--blind".as_slice() {
+        with_blind(options, blind_of(value))
     } else {
         None
     }
@@ -49,7 +53,7 @@ fn with_ram(options: RunOptions, pages: Option<u64>) -> Option<RunOptions>
     match (options.ram_pages, pages) {
         (None, Some(pages)) => Some(RunOptions {
             ram_pages: Some(pages as u32),
-            steps: options.steps,
+            ..options
         }),
         _ => None,
     }
@@ -63,8 +67,22 @@ fn with_steps(options: RunOptions, steps: Option<u64>) -> Option<RunOptions>
 {
     match (options.steps, steps) {
         (None, Some(steps)) => Some(RunOptions {
-            ram_pages: options.ram_pages,
             steps: Some(steps),
+            ..options
+        }),
+        _ => None,
+    }
+}
+
+fn with_blind(options: RunOptions, blind: Option<(ModId, u64)>) -> Option<RunOptions>
+    requires options { AreInRange options }
+    ensures read { result ≡ flat.with_blind options options.blind blind }
+    ensures range { IfSome result AreInRange }
+{
+    match (options.blind, blind) {
+        (None, Some(blind)) => Some(RunOptions {
+            blind: Some(blind),
+            ..options
         }),
         _ => None,
     }

@@ -6,6 +6,7 @@ ghost use Rattle.bn_model.specs.Words as flat;
 
 use crate::options::options_of;
 use bn_model::RunOptions;
+use bn_types::ModId;
 use std::str::from_utf8;
 
 /// A run of an image.
@@ -17,6 +18,9 @@ pub struct RunOrder<'a> {
     pub ram_pages: u32,
     /// The most events, from 0 to 1,000,000,000.
     pub steps: u64,
+    /// The module, from 1 to 65,535, whose secrets are zeroed just before an event, and the number of
+    /// that event, from 0 to 1,000,000,000.
+    pub blind: Option<(ModId, u64)>,
 }
 
 /// The run that the words order. None exactly where they aren't `run`, a name in UTF-8 that isn't
@@ -49,6 +53,7 @@ fn order_with<'a>(image: &'a [u8], words: &[Vec<u8>]) -> Option<RunOrder<'a>>
             image,
             ram_pages: options.ram_pages.unwrap_or(1024),
             steps: options.steps.unwrap_or(1_000_000),
+            blind: options.blind,
         }),
         None => None,
     }
@@ -57,6 +62,7 @@ fn order_with<'a>(image: &'a [u8], words: &[Vec<u8>]) -> Option<RunOrder<'a>>
 const NO_OPTIONS: RunOptions = RunOptions {
     ram_pages: None,
     steps: None,
+    blind: None,
 };
 
 fn plain_name(name: &[u8]) -> Option<&str>

@@ -3,7 +3,7 @@ ghost use Rattle.std.specs.Prelude.{◌≡◌, ◌≢◌, ◌+◌, ◌*◌, ◌^
 ghost use Rattle.std.specs.Prelude.{false};
 ghost use Rattle.bn_model.specs.Reporting as flat;
 ghost use Rattle.bn_model.specs.Loading.{Ram};
-ghost use Rattle.bn_model.specs.Running.{course, turns};
+ghost use Rattle.bn_model.specs.Running.{blind_at, course, turns};
 ghost use Rattle.bn_machine.specs.Built.{is_built_event};
 ghost use Rattle.bn_machine.specs.Loads.{raw_image};
 ghost use Rattle.bn_machine.specs.Story.{Answers, CountsSinkFault};
@@ -115,29 +115,30 @@ fn serve_image<O: Sink>(alloc: Global, order: &RunOrder<'_>, bytes: Vec<u8>, out
         harts: 1,
     };
     match Machine::boot(alloc, settings, &image) {
-        Ok(machine) => serve_machine::<O, Brand>(machine, order.steps, out, Blank::new(1)),
+        Ok(machine) => serve_machine::<O, Brand>(machine, order, out, Blank::new(1)),
         Err(_) => Status::Memory,
     }
 }
 
 fn serve_machine<O: Sink, L: Ledger>(
     mut machine: Machine,
-    limit: u64,
+    order: &RunOrder<'_>,
     out: &mut O,
     blank: Blank,
 ) -> Status
     requires on { machine.state.off ≡ false }
-    requires clock { machine.state.clock + limit < 2 ^ 64 }
+    requires clock { machine.state.clock + order.now.steps < 2 ^ 64 }
     requires name { blank.name ≡ L.name }
     requires parts { blank.parts ≡ L.parts }
     requires some { 0 < L.parts }
     ensures answers { Answers result
-        (flat.report_of_course (course is_built_event None machine.state (turns limit)))
+        (flat.report_of_course (course is_built_event (blind_at order.now.blind) machine.state
+        (turns order.now.steps)))
         (O.account out.old) (O.account out.new) }
     ensures counted { CountsSinkFault result (O.account out.old).faults (O.account out.new).faults }
 {
     let mut steps = Steps::<L>::open(blank);
-    match machine.run(limit, out, &mut steps) {
+    match machine.run(order.steps, order.blind, out, &mut steps) {
         Ok(ending) => close(&machine, ending, out, &mut steps),
         Err(_) => Status::SinkFault,
     }

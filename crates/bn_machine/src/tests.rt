@@ -92,6 +92,7 @@ fn run_image(
         image: "guest",
         ram_pages,
         steps,
+        blind: None,
     };
     let mut out = MemSink::of(alloc, 16_384, Vec::new(alloc)).expect(rt, "memory");
     let status = serve_file(alloc, &order, image, &mut out);

@@ -12,8 +12,10 @@ use std::alloc::Global;
 /// Reads the words, runs the image that they name and writes its trace.
 ///
 /// The words are `run`, the name of a raw image, which isn't empty and doesn't begin with `-`, and
-/// then, each at most once, `--ram` with 16 to 4,096 pages (1,024 where it isn't given) and
-/// `--steps` with the most events, from 0 to 1,000,000,000 (1,000,000). A run has one hart. Where
+/// then, each at most once, `--ram` with 16 to 4,096 pages (1,024 where it isn't given), `--steps`
+/// with the most events, from 0 to 1,000,000,000 (1,000,000), and `--blind` with `M@K`, a module from
+/// 1 to 65,535 and the number of an event from 0 to 1,000,000,000: just before this event, where
+/// there is one, the secrets of the module are zeroed, where it rests. A run has one hart. Where
 /// nothing fails, the status and the text are those of the report of the flat machine.
 pub fn bastion<D: Desk, O: Sink>(
     alloc: Global,
