@@ -228,7 +228,7 @@ reached blind zero s before event sound makes = absurd makes
 reached blind (suc n) s before event sound makes =
     by_place makes.1
     (λ later. reached blind n (step here (Turn 0)) before event
-        (sound-kept here (Turn 0) fits good) later)
+    (sound-kept here (Turn 0) fits good) later)
   where
     here : State
     here = state_before blind s

@@ -84,13 +84,13 @@ zeroed-by true decls decl pages is =
     each-more (zeroed_page decls) (zeroed_page (decls ++ decl ∷ [])) decl.gpn.0 zero_page pages
     (private-there decls decl is)
     (λ page bytes apart. same-elsewhere decls decl page bytes
-        (ap (λ (b : Bool). is_private decl.sort && b)
-        (ne_eqb decl.gpn.0 page (λ e. apart (sym e)))
-        ∙ and-false (is_private decl.sort)))
+    (ap (λ (b : Bool). is_private decl.sort && b)
+    (ne_eqb decl.gpn.0 page (λ e. apart (sym e)))
+    ∙ and-false (is_private decl.sort)))
 zeroed-by false decls decl pages is =
     each-same (zeroed_page decls) (zeroed_page (decls ++ decl ∷ []))
     (λ page bytes. same-elsewhere decls decl page bytes
-        (ap (λ (b : Bool). b && (decl.gpn.0 == page)) is)) 0 pages
+    (ap (λ (b : Bool). b && (decl.gpn.0 == page)) is)) 0 pages
 
 pub zeroed-more : (decls : List Decl) (decl : Decl) (pages : List (List ℕ))
     → after_decl decl (zeroed_pages decls pages) ≡ zeroed_pages (decls ++ decl ∷ []) pages
@@ -105,7 +105,7 @@ unfolding zeroed_pages blank_pages
 zeroed-row low rows next ids id row found pages =
     each-same (zeroed_page row.judged.decls.items) (blank_page (owners rows) id)
     (λ page bytes. ap (λ (b : Bool). zeros_if b bytes)
-        (sym (private-row low rows next ids id page row found))) 0 pages
+    (sym (private-row low rows next ids id page row found))) 0 pages
 
 row-owner : (rows : List Row) (id : ℕ) (row : Row) → row_of rows id ≡ Some row
     → Has (owner_of row) (owners rows)

@@ -8,7 +8,6 @@ use Rattle.bn_types.specs.declared.row.Row.{Row}
 use Rattle.bn_model.specs.declared.owner.Owner.{Owner}
 use Rattle.bn_model.specs.Blanking.{blank, blank_if, blank_page, blank_pages, blank_row, blanked}
 use Rattle.bn_model.specs.Blanking.{rests, runs}
-use Rattle.bn_model.specs.Each.{each}
 use Rattle.bn_model.specs.Evicting.{zeros_if}
 use Rattle.bn_model.specs.Owners.{is_live, is_private_page}
 use Rattle.bn_model.specs.Rows.{change_at, change_if, has_id, owners, with_row}

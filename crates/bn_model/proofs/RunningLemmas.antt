@@ -1,6 +1,6 @@
 -- Laws of runs.
 use Rattle.std.proofs.Common.{◌≡◌, ℕ, suc, zero, ◌+◌, ◌-◌, ◌<◌, Bool, true, false, List, [], ◌∷◌}
-use Rattle.std.proofs.Common.{◌++◌, Option, None, refl, ap, ◌∙◌, sym, arith}
+use Rattle.std.proofs.Common.{◌++◌, Option, refl, ap, ◌∙◌, sym, arith}
 use Rattle.std.proofs.lemmas.List.{append_assoc}
 use Rattle.bn_types.specs.declared.ending.Ending.TheVariants.{Shutdown, Limit, Unbuilt}
 use Rattle.bn_types.specs.declared.event.Event.{Event}

@@ -1,6 +1,6 @@
 -- Whole courses in which a module's secrets are zeroed, beside those in which they aren't.
 use Rattle.std.proofs.Common.{◌≡◌, ℕ, ◌+◌, ◌<◌, ◌≤◌, ◌==◌, Bool, true, false, List, [], ◌∷◌, ◌++◌}
-use Rattle.std.proofs.Common.{Option, Some, None, inl, inr, refl, sym, ap, ap₂, subst, ◌∙◌, arith}
+use Rattle.std.proofs.Common.{Some, None, inl, inr, refl, sym, ap, ap₂, subst, ◌∙◌, arith}
 use Rattle.std.proofs.Common.{ne_eqb, eq-eqb, eqb-true}
 use Rattle.std.proofs.lemmas.Bool.{eqb-false}
 use Rattle.bn_types.specs.declared.digest.Digest.{Digest}
@@ -19,14 +19,14 @@ use Rattle.bn_model.specs.BlankingLaws.{ZeroingIsUnseen}
 use Rattle.bn_model.specs.Owners.{is_live}
 use Rattle.bn_model.specs.Reporting.{Report, closing, public_digest, report_of_course}
 use Rattle.bn_model.specs.Rows.{owners}
-use Rattle.bn_model.specs.Running.{Blind, Built, Course, IsNext, Reaches, blank_when, course, onward}
+use Rattle.bn_model.specs.Running.{Blind, Built, Course, Reaches, blank_when, course, onward}
 use Rattle.bn_model.specs.Running.{state_before, unless_off}
 use Rattle.bn_model.specs.Soundness.{IsSound}
 use Rattle.bn_model.specs.SoundnessLaws.{KeepsSound}
 use Rattle.bn_model.specs.Spelling.{spelling, text_of}
 use Rattle.bn_model.specs.State.{State}
 use Rattle.bn_model.specs.Stepping.{Fits, lines, step}
-use Rattle.bn_model.proofs.BeforeLemmas.{clock-blank, off-blank}
+use Rattle.bn_model.proofs.BeforeLemmas.{clock-blank}
 use Rattle.bn_model.proofs.BlankLemmas.{blank-dead, blank-lines, blank-rests}
 use Rattle.bn_model.proofs.BlankPages.{digest-blank}
 use Rattle.bn_model.proofs.RunningLemmas.{course_built, course_none, course_off, course_unbuilt}

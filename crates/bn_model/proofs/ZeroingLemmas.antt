@@ -1,7 +1,7 @@
 -- Runs from the state without the secrets of a resting module.
 use Rattle.std.proofs.Common.{◌≡◌, ℕ, zero, suc, ◌<◌, ◌==◌, ◌&&◌, ◌||◌, Bool, true, false, not}
-use Rattle.std.proofs.Common.{List, [], ◌∷◌, ◌++◌, length, map, set, Option, None, refl, sym, ap}
-use Rattle.std.proofs.Common.{ap₂, subst, ◌∙◌, append_assoc, arith, ne_eqb}
+use Rattle.std.proofs.Common.{List, [], ◌∷◌, ◌++◌, length, map, set, Option, refl, sym, ap}
+use Rattle.std.proofs.Common.{ap₂, subst, ◌∙◌, arith, ne_eqb}
 use Rattle.std.proofs.lemmas.List.{map-append}
 use Rattle.std.proofs.lemmas.List.Folds.{list_any-append}
 use Rattle.std.specs.List.{list_any}
@@ -13,17 +13,16 @@ use Rattle.bn_types.specs.declared.line.Line.{Line}
 use Rattle.bn_types.specs.declared.mod_id.ModId.{ModId}
 use Rattle.bn_types.specs.declared.row.Row.{Row}
 use Rattle.bn_model.specs.declared.owner.Owner.{Owner}
-use Rattle.bn_model.specs.Blanking.{blank, blank_if, blank_row, blanked, rests, runs}
-use Rattle.bn_model.specs.BlankingLaws.{AllFit, AreAlikeBut, IsUnseen, RestingHidesSecrets}
-use Rattle.bn_model.specs.BlankingLaws.{RestsIn, RestsOn, RunsHideSecrets, TellAlike}
+use Rattle.bn_model.specs.Blanking.{blank, blank_row, blanked, rests, runs}
+use Rattle.bn_model.specs.BlankingLaws.{AllFit, IsUnseen, RestingHidesSecrets}
+use Rattle.bn_model.specs.BlankingLaws.{RestsOn, RunsHideSecrets}
 use Rattle.bn_model.specs.BlankingLaws.{ZeroingChangesNothing}
 use Rattle.bn_model.specs.Deciding.{decision_of, decision_of_hart}
 use Rattle.bn_model.specs.Decision.{Decision, Trap, Deny, Launch, Call, Return, Resume, Evict}
 use Rattle.bn_model.specs.Evicting.{evicted_rows, is_among, rows_left}
 use Rattle.bn_model.specs.Owners.{is_live, is_module, is_private_page}
 use Rattle.bn_model.specs.Rows.{new_row, owner_of, owners, row_of, saved_of, with_row}
-use Rattle.bn_model.specs.Running.{Blind, ComesTo, Run, run, state_before, turns}
-use Rattle.bn_model.specs.RunningLaws.{run_on}
+use Rattle.bn_model.specs.Running.{Blind, Run, run, state_before, turns}
 use Rattle.bn_model.specs.SoundnessLaws.{KeepsSound}
 use Rattle.bn_model.specs.Soundness.{IsSound}
 use Rattle.bn_model.specs.State.{Hart, State, frame_of, hart_after_resume, hart_after_return}
@@ -42,28 +41,9 @@ use Rattle.bn_model.proofs.IdLemmas.{live-between}
 use Rattle.bn_model.proofs.RowLemmas.{owners-with_row}
 use Rattle.bn_model.proofs.SteppingLemmas.{harts_after}
 
--- ---- one run after another
-
 -- an event's lines before those of the others
 abbrev onward : List Line → Run → Run
 onward told rest = record rest { told = told ++ rest.told }
-
-onward-on : (told : List Line) (first second : Run)
-    → onward told (run_on first second) ≡ run_on (onward told first) second
-onward-on told first second =
-    ap (λ (ls : List Line). let r : Run = record second { told = ls } in r)
-    (sym (append_assoc told first.told second.told))
-
-pub run-append : (blind : Option Blind) (s : State) (events others : List Event)
-    → run blind s (events ++ others)
-    ≡ run_on (run blind s events) (run blind (run blind s events).last others)
-unfolding run
-run-append blind s [] others = refl
-run-append blind s (event ∷ events) others =
-    let before : State = state_before blind s in
-    ap (onward (lines before event)) (run-append blind (step before event) events others)
-    ∙ onward-on (lines before event) (run blind (step before event) events)
-    (run blind (run blind (step before event) events).last others)
 
 -- ---- an id never comes back
 

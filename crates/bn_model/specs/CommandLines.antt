@@ -1,7 +1,7 @@
 -- The words of a whole command line (this project's own grammar): `run` with all its options, and
--- `gen`. The module Words is the part of it that is built so far: an image and then `--ram` and
--- `--steps`, each with its value in the next word. Words that have an order there have the same
--- order here, with one hart, no script, no store, no blinding and no moves.
+-- `gen`. The module Words is the part of it that is built so far: an image and then `--ram`, `--steps`
+-- and `--blind`, each with its value in the next word. Words that have an order there have the same
+-- order here, with one hart, no script, no store and no moves.
 use Rattle.std.specs.Prelude.{ℕ, ◌-◌, ◌^◌, ◌==◌, Bool, true, false, List, [], ◌∷◌, ◌++◌, bytes_eq}
 use Rattle.std.specs.Prelude.{codes, filter_map, find, Option, Some, None, option_map}
 use Rattle.std.specs.List.{list_all}

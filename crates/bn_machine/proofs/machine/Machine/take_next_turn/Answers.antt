@@ -3,15 +3,15 @@ use Rattle.bn_machine.proofs.Runs.{before_clock, before_harts, before_on}
 use Rattle.bn_machine.proofs.machine.Machine.take_next_turn.Goals as goal
 
 pub turn-requires-clause-on : goal.turn-requires-clause-on
-turn-requires-clause-on g c = rw c.blank_before_event.ensures.blanked 
+turn-requires-clause-on g c = rw c.blank_before_event.ensures.blanked
     (before_on (blind_at c.args.blind) c.args.self.now.state c.requires.on)
 
 pub turn-requires-clause-fits : goal.turn-requires-clause-fits
 turn-requires-clause-fits g c =
-    rw c.blank_before_event.ensures.blanked 
+    rw c.blank_before_event.ensures.blanked
     (before_harts (blind_at c.args.blind) c.args.self.now.state c.requires.hart)
 
 pub turn-requires-clause-clock : goal.turn-requires-clause-clock
 turn-requires-clause-clock g c =
-    rw c.blank_before_event.ensures.blanked 
+    rw c.blank_before_event.ensures.blanked
     (before_clock (blind_at c.args.blind) c.args.self.now.state _ c.requires.clock)

@@ -1,4 +1,4 @@
-use Rattle.bn_model.proofs.ZeroingLemmas.{run-append}
+use Rattle.bn_model.proofs.RunningLemmas.{run-append}
 use Rattle.bn_model.proofs.laws.running.runs_append.Goals as goal
 
 pub returns : goal.returns
