@@ -86,8 +86,8 @@ def steps(name):
 
 
 def pattern_of(line):
-    """The pattern of a line by hand: N stands for the number of an event, P for an address, I for an
-    identity."""
+    """The pattern of a line by hand: N stands for the number of an event, P for an address, I for
+    an identity."""
     spelled = {"N": r"\d+", "P": "[0-9a-f]{16}", "I": "[0-9a-f]{64}"}
     return " ".join(spelled.get(field, field) for field in line.split(" "))
 
@@ -98,8 +98,8 @@ def lines_by_hand(name):
     return [pattern_of(line) for line in re.findall(r"^#: (.*)$", text, re.M)]
 
 
-# a run of a guest in which a module is zeroed before an event; it has so many lines of the run in which
-# none is, or all of them where this is None, and behind them these by hand and its end
+# a run of a guest in which a module is zeroed before an event; it has so many lines of the run in
+# which none is, or all of them where this is None, and behind them these by hand and its end
 Zeroed = collections.namedtuple("Zeroed", "module event kept rest")
 
 
@@ -245,8 +245,8 @@ def folder_module(folder):
            ""]
     if is_zeroed:
         kind, expect = "ZeroedGuest", "expect_zeroed_guests"
-        out += ["use super::guest::Guest;",
-                "use super::zeroed_guest::{NO_LINES, Zeroed, ZeroedGuest, expect_zeroed_guests};", ""]
+        parts = "NO_LINES, Zeroed, ZeroedGuest, expect_zeroed_guests"
+        out += ["use super::guest::Guest;", f"use super::zeroed_guest::{{{parts}}};", ""]
     else:
         kind, expect = "Guest", "expect_guests"
         out += ["use super::guest::{Guest, expect_guests};", ""]

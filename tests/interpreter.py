@@ -25,8 +25,8 @@ class Machine:
         return memory.load(self.state, self.hart, va, size, kind)
 
     def run(self, limit=100_000, blind=None):
-        """The lines of a run of at most so many events, the last of them `end` or `unbuilt`. `blind`
-        is a module and the number of the event before which it is zeroed."""
+        """The lines of a run of at most so many events, the last of them `end` or `unbuilt`.
+        `blind` is a module and the number of the event before which it is zeroed."""
         try:
             running.run(self.state, running.rounds(1), limit, blind)
         except Unbuilt:

@@ -1,5 +1,5 @@
-# A module offers a page, which another accepts. It isn't zeroed with the one, nor with the other: who
-# still runs reads there what was written last.
+# A module offers a page, which another accepts. It isn't zeroed with the one, nor with the other:
+# who still runs reads there what was written last.
 # ram 32
 #: launch 5 0 1 I
 #: launch 10 0 2 I

@@ -1,5 +1,5 @@
-# A timer stops a module, which is zeroed where it rests: nothing changes up to the line that lets it
-# go on, by which its code is zeros. It isn't zeroed where it runs, nor where it doesn't live yet,
+# A timer stops a module, which is zeroed where it rests: nothing changes up to the line by which it
+# goes on, and then its code is zeros. It isn't zeroed where it runs, nor where it doesn't live yet,
 # nor where there is no such event or no such module.
 # ram 32
 #: launch 5 0 1 I

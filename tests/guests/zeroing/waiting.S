@@ -1,4 +1,4 @@
-# A module waits for another, which a timer stops. Where the first is zeroed its own frame is: it goes
+# A module waits for another, which a timer stops. Where the first is zeroed, its pc stays: it goes
 # on behind its call, where its code is zeros. Where the second is zeroed the first isn't.
 # ram 32
 #: launch 5 0 1 I

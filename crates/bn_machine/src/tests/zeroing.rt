@@ -720,8 +720,8 @@ const OWN_TABLES_RUNS: [Zeroed<'static>; 2] = [
     },
 ];
 
-// A timer stops a module, which is zeroed where it rests: nothing changes up to the line that lets
-// it go on, by which its code is zeros. It isn't zeroed where it runs, nor where it doesn't live
+// A timer stops a module, which is zeroed where it rests: nothing changes up to the line by which
+// it goes on, and then its code is zeros. It isn't zeroed where it runs, nor where it doesn't live
 // yet, nor where there is no such event or no such module.
 const TIMER_CODE: [u32; 25] = [
     0x00001f97, // auipc x31,0x1
@@ -964,8 +964,8 @@ const TIMER_RUNS: [Zeroed<'static>; 17] = [
     },
 ];
 
-// A module waits for another, which a timer stops. Where the first is zeroed its own frame is: it
-// goes on behind its call, where its code is zeros. Where the second is zeroed the first isn't.
+// A module waits for another, which a timer stops. Where the first is zeroed, its pc stays: it goes
+// on behind its call, where its code is zeros. Where the second is zeroed the first isn't.
 const WAITING_CODE: [u32; 50] = [
     0x00000f97, // auipc x31,0x0
     0x078f8f93, // addi x31,x31,120
