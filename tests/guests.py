@@ -29,7 +29,16 @@ FOLDERS = {
     "zeroing": (
         UNBUILT,
         "Guests one of whose modules is zeroed before an event: while it rests nobody can tell.",
-        "zeroing_a_resting_module_changes_nothing_until_it_runs"),
+        # a test for each guest, since each has many runs
+        {"evicted": "a_zeroed_module_is_evicted_as_others_are",
+         "idle": "a_module_is_zeroed_between_its_calls",
+         "limit": "zeroing_beside_the_limit_is_not_told",
+         "offered": "shared_pages_are_not_zeroed",
+         "own_root": "a_zeroed_page_is_no_root",
+         "own_tables": "a_zeroed_page_is_no_table",
+         "timer": "a_stopped_module_is_zeroed",
+         "waiting": "a_waiting_module_is_zeroed",
+         "wrong_resumption": "a_zeroed_module_keeps_its_pc_and_mode"}),
 }
 # as many events as a guest of a folder may have
 ALL = 60_000
@@ -210,8 +219,8 @@ def listing(name):
     runs = zeroings(name)
     if runs:
         out += zeroed_listing(name, image, lines, runs)
-        entry = ["    ZeroedGuest {", "        guest: Guest {", *entry[1:],
-                 f"        runs: &{prefix}_RUNS,", "    },"]
+        entry = [f"const {prefix}: ZeroedGuest<'static> = ZeroedGuest {{", "    guest: Guest {",
+                 *entry[1:], f"    runs: &{prefix}_RUNS,", "};", ""]
     return out, entry
 
 
@@ -238,25 +247,32 @@ def trace(name, image, zeroed=None):
 def folder_module(folder):
     """The test module of a folder of guests."""
     found = [listing(name) for name in names(folder)]
-    is_zeroed = any(zeroings(name) for name in names(folder))
     _, about, test = FOLDERS[folder]
     out = [f"//! {about}",
            "//! Made by `tests/make` from their assembly; the traces are those of `tests/interpreter.py`.",
            ""]
-    if is_zeroed:
-        kind, expect = "ZeroedGuest", "expect_zeroed_guests"
-        parts = "NO_LINES, Zeroed, ZeroedGuest, expect_zeroed_guests"
-        out += ["use super::guest::Guest;", f"use super::zeroed_guest::{{{parts}}};", ""]
-    else:
-        kind, expect = "Guest", "expect_guests"
-        out += ["use super::guest::{Guest, expect_guests};", ""]
+    if isinstance(test, dict):
+        return "\n".join(out + zeroed_tests(folder, found, test))
+    out += ["use super::guest::{Guest, expect_guests};", ""]
     for arrays, _ in found:
         out += arrays
-    out += [f"const GUESTS: [{kind}<'static>; {len(found)}] = ["]
+    out += [f"const GUESTS: [Guest<'static>; {len(found)}] = ["]
     out += [line for _, entry in found for line in entry] + ["];", ""]
     out += ["#[test]", f"fn {test}(rt: HostRuntime) {{",
-            f"    {expect}(&rt, rt.alloc(), &GUESTS);", "}", ""]
+            "    expect_guests(&rt, rt.alloc(), &GUESTS);", "}", ""]
     return "\n".join(out)
+
+
+def zeroed_tests(folder, found, tests):
+    """The guests in which modules are zeroed, and a test for each."""
+    parts = "NO_LINES, Zeroed, ZeroedGuest, expect_zeroed_guest"
+    out = ["use super::guest::Guest;", f"use super::zeroed_guest::{{{parts}}};", ""]
+    for name, (arrays, entry) in zip(names(folder), found):
+        stem = name.split("/")[1]
+        out += arrays + entry
+        out += ["#[test]", f"fn {tests[stem]}(rt: HostRuntime) {{",
+                f"    expect_zeroed_guest(&rt, rt.alloc(), &{stem.upper()});", "}", ""]
+    return out
 
 
 def names(folder=None):

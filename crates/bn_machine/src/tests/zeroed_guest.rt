@@ -55,12 +55,10 @@ fn expect_zeroed(rt: &impl Abort, alloc: Global, guest: &Guest<'_>, run: &Zeroed
     check(rt, alloc, &words, image, status_of(guest), &trace);
 }
 
-/// Each guest's runs, in a RAM of 32 pages, have their traces.
-pub fn expect_zeroed_guests(rt: &impl Abort, alloc: Global, guests: &[ZeroedGuest<'_>]) {
-    for zeroed in guests {
-        expect_guest(rt, alloc, &zeroed.guest);
-        for run in zeroed.runs {
-            expect_zeroed(rt, alloc, &zeroed.guest, run);
-        }
+/// All runs of the guest, in a RAM of 32 pages, have their traces.
+pub fn expect_zeroed_guest(rt: &impl Abort, alloc: Global, zeroed: &ZeroedGuest<'_>) {
+    expect_guest(rt, alloc, &zeroed.guest);
+    for run in zeroed.runs {
+        expect_zeroed(rt, alloc, &zeroed.guest, run);
     }
 }

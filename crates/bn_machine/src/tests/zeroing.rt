@@ -2,7 +2,7 @@
 //! Made by `tests/make` from their assembly; the traces are those of `tests/interpreter.py`.
 
 use super::guest::Guest;
-use super::zeroed_guest::{NO_LINES, Zeroed, ZeroedGuest, expect_zeroed_guests};
+use super::zeroed_guest::{NO_LINES, Zeroed, ZeroedGuest, expect_zeroed_guest};
 
 // A module that was called, and then is stopped, is evicted. Where it was zeroed before, that is
 // the same: its pages are zeros, and a launch of its text gives the identity of a module of zeros.
@@ -106,6 +106,21 @@ const EVICTED_RUNS: [Zeroed<'static>; 4] = [
         rest: &NO_LINES,
     },
 ];
+
+const EVICTED: ZeroedGuest<'static> = ZeroedGuest {
+    guest: Guest {
+        code: &EVICTED_CODE,
+        tables: &EVICTED_TABLES,
+        steps: 60_000,
+        lines: &EVICTED_LINES,
+    },
+    runs: &EVICTED_RUNS,
+};
+
+#[test]
+fn a_zeroed_module_is_evicted_as_others_are(rt: HostRuntime) {
+    expect_zeroed_guest(&rt, rt.alloc(), &EVICTED);
+}
 
 // A module keeps a number from one call to the next. Where it is zeroed in between, the kernel
 // finds it as before: it is denied, and refused, and the module has its identity. The line of the
@@ -223,6 +238,21 @@ const IDLE_RUNS: [Zeroed<'static>; 4] = [
         rest: &NO_LINES,
     },
 ];
+
+const IDLE: ZeroedGuest<'static> = ZeroedGuest {
+    guest: Guest {
+        code: &IDLE_CODE,
+        tables: &IDLE_TABLES,
+        steps: 60_000,
+        lines: &IDLE_LINES,
+    },
+    runs: &IDLE_RUNS,
+};
+
+#[test]
+fn a_module_is_zeroed_between_its_calls(rt: HostRuntime) {
+    expect_zeroed_guest(&rt, rt.alloc(), &IDLE);
+}
 
 // A run that ends at its limit, with a stopped module: it is zeroed before the last event, or not,
 // since there is no such event. One can't tell.
@@ -366,6 +396,21 @@ const LIMIT_RUNS: [Zeroed<'static>; 3] = [
         rest: &NO_LINES,
     },
 ];
+
+const LIMIT: ZeroedGuest<'static> = ZeroedGuest {
+    guest: Guest {
+        code: &LIMIT_CODE,
+        tables: &LIMIT_TABLES,
+        steps: 52,
+        lines: &LIMIT_LINES,
+    },
+    runs: &LIMIT_RUNS,
+};
+
+#[test]
+fn zeroing_beside_the_limit_is_not_told(rt: HostRuntime) {
+    expect_zeroed_guest(&rt, rt.alloc(), &LIMIT);
+}
 
 // A module offers a page, which another accepts. It isn't zeroed with the one, nor with the other:
 // who still runs reads there what was written last.
@@ -592,6 +637,21 @@ const OFFERED_RUNS: [Zeroed<'static>; 10] = [
     },
 ];
 
+const OFFERED: ZeroedGuest<'static> = ZeroedGuest {
+    guest: Guest {
+        code: &OFFERED_CODE,
+        tables: &OFFERED_TABLES,
+        steps: 60_000,
+        lines: &OFFERED_LINES,
+    },
+    runs: &OFFERED_RUNS,
+};
+
+#[test]
+fn shared_pages_are_not_zeroed(rt: HostRuntime) {
+    expect_zeroed_guest(&rt, rt.alloc(), &OFFERED);
+}
+
 // The kernel gives a page of a module as its root. Every access traps, and none is denied, whatever
 // is in the page.
 const OWN_ROOT_CODE: [u32; 10] = [
@@ -644,6 +704,21 @@ const OWN_ROOT_RUNS: [Zeroed<'static>; 3] = [
         rest: &NO_LINES,
     },
 ];
+
+const OWN_ROOT: ZeroedGuest<'static> = ZeroedGuest {
+    guest: Guest {
+        code: &OWN_ROOT_CODE,
+        tables: &OWN_ROOT_TABLES,
+        steps: 13,
+        lines: &OWN_ROOT_LINES,
+    },
+    runs: &OWN_ROOT_RUNS,
+};
+
+#[test]
+fn a_zeroed_page_is_no_root(rt: HostRuntime) {
+    expect_zeroed_guest(&rt, rt.alloc(), &OWN_ROOT);
+}
 
 // The kernel's root leads on to a page of a module, which has what would be a good leaf. Loads by
 // that table trap, and none is denied, whatever is in the page.
@@ -719,6 +794,21 @@ const OWN_TABLES_RUNS: [Zeroed<'static>; 2] = [
         rest: &NO_LINES,
     },
 ];
+
+const OWN_TABLES: ZeroedGuest<'static> = ZeroedGuest {
+    guest: Guest {
+        code: &OWN_TABLES_CODE,
+        tables: &OWN_TABLES_TABLES,
+        steps: 60_000,
+        lines: &OWN_TABLES_LINES,
+    },
+    runs: &OWN_TABLES_RUNS,
+};
+
+#[test]
+fn a_zeroed_page_is_no_table(rt: HostRuntime) {
+    expect_zeroed_guest(&rt, rt.alloc(), &OWN_TABLES);
+}
 
 // A timer stops a module, which is zeroed where it rests: nothing changes up to the line by which
 // it goes on, and then its code is zeros. It isn't zeroed where it runs, nor where it doesn't live
@@ -964,6 +1054,21 @@ const TIMER_RUNS: [Zeroed<'static>; 17] = [
     },
 ];
 
+const TIMER: ZeroedGuest<'static> = ZeroedGuest {
+    guest: Guest {
+        code: &TIMER_CODE,
+        tables: &TIMER_TABLES,
+        steps: 60_000,
+        lines: &TIMER_LINES,
+    },
+    runs: &TIMER_RUNS,
+};
+
+#[test]
+fn a_stopped_module_is_zeroed(rt: HostRuntime) {
+    expect_zeroed_guest(&rt, rt.alloc(), &TIMER);
+}
+
 // A module waits for another, which a timer stops. Where the first is zeroed, its pc stays: it goes
 // on behind its call, where its code is zeros. Where the second is zeroed the first isn't.
 const WAITING_CODE: [u32; 50] = [
@@ -1135,6 +1240,21 @@ const WAITING_RUNS: [Zeroed<'static>; 9] = [
     },
 ];
 
+const WAITING: ZeroedGuest<'static> = ZeroedGuest {
+    guest: Guest {
+        code: &WAITING_CODE,
+        tables: &WAITING_TABLES,
+        steps: 60_000,
+        lines: &WAITING_LINES,
+    },
+    runs: &WAITING_RUNS,
+};
+
+#[test]
+fn a_waiting_module_is_zeroed(rt: HostRuntime) {
+    expect_zeroed_guest(&rt, rt.alloc(), &WAITING);
+}
+
 // A stopped module that is zeroed goes on where it would have gone on: its pc and its mode stay.
 // The word there is zero in its image too.
 const WRONG_RESUMPTION_CODE: [u32; 96] = [
@@ -1286,91 +1406,17 @@ const WRONG_RESUMPTION_RUNS: [Zeroed<'static>; 1] = [Zeroed {
     rest: &NO_LINES,
 }];
 
-const GUESTS: [ZeroedGuest<'static>; 9] = [
-    ZeroedGuest {
-        guest: Guest {
-            code: &EVICTED_CODE,
-            tables: &EVICTED_TABLES,
-            steps: 60_000,
-            lines: &EVICTED_LINES,
-        },
-        runs: &EVICTED_RUNS,
+const WRONG_RESUMPTION: ZeroedGuest<'static> = ZeroedGuest {
+    guest: Guest {
+        code: &WRONG_RESUMPTION_CODE,
+        tables: &WRONG_RESUMPTION_TABLES,
+        steps: 60_000,
+        lines: &WRONG_RESUMPTION_LINES,
     },
-    ZeroedGuest {
-        guest: Guest {
-            code: &IDLE_CODE,
-            tables: &IDLE_TABLES,
-            steps: 60_000,
-            lines: &IDLE_LINES,
-        },
-        runs: &IDLE_RUNS,
-    },
-    ZeroedGuest {
-        guest: Guest {
-            code: &LIMIT_CODE,
-            tables: &LIMIT_TABLES,
-            steps: 52,
-            lines: &LIMIT_LINES,
-        },
-        runs: &LIMIT_RUNS,
-    },
-    ZeroedGuest {
-        guest: Guest {
-            code: &OFFERED_CODE,
-            tables: &OFFERED_TABLES,
-            steps: 60_000,
-            lines: &OFFERED_LINES,
-        },
-        runs: &OFFERED_RUNS,
-    },
-    ZeroedGuest {
-        guest: Guest {
-            code: &OWN_ROOT_CODE,
-            tables: &OWN_ROOT_TABLES,
-            steps: 13,
-            lines: &OWN_ROOT_LINES,
-        },
-        runs: &OWN_ROOT_RUNS,
-    },
-    ZeroedGuest {
-        guest: Guest {
-            code: &OWN_TABLES_CODE,
-            tables: &OWN_TABLES_TABLES,
-            steps: 60_000,
-            lines: &OWN_TABLES_LINES,
-        },
-        runs: &OWN_TABLES_RUNS,
-    },
-    ZeroedGuest {
-        guest: Guest {
-            code: &TIMER_CODE,
-            tables: &TIMER_TABLES,
-            steps: 60_000,
-            lines: &TIMER_LINES,
-        },
-        runs: &TIMER_RUNS,
-    },
-    ZeroedGuest {
-        guest: Guest {
-            code: &WAITING_CODE,
-            tables: &WAITING_TABLES,
-            steps: 60_000,
-            lines: &WAITING_LINES,
-        },
-        runs: &WAITING_RUNS,
-    },
-    ZeroedGuest {
-        guest: Guest {
-            code: &WRONG_RESUMPTION_CODE,
-            tables: &WRONG_RESUMPTION_TABLES,
-            steps: 60_000,
-            lines: &WRONG_RESUMPTION_LINES,
-        },
-        runs: &WRONG_RESUMPTION_RUNS,
-    },
-];
+    runs: &WRONG_RESUMPTION_RUNS,
+};
 
 #[test]
-fn zeroing_a_resting_module_changes_nothing_until_it_runs(rt: HostRuntime) {
-    expect_zeroed_guests(&rt, rt.alloc(), &GUESTS);
+fn a_zeroed_module_keeps_its_pc_and_mode(rt: HostRuntime) {
+    expect_zeroed_guest(&rt, rt.alloc(), &WRONG_RESUMPTION);
 }
