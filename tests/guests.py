@@ -1,4 +1,5 @@
 """Guests in assembly, assembled by GNU as, and the test modules that are made of them."""
+import collections
 import pathlib
 import re
 import subprocess
@@ -25,6 +26,19 @@ FOLDERS = {
         UNBUILT,
         "Guests that call modules, whose modules call and return, are stopped, go on and are evicted.",
         "modules_are_called_stopped_resumed_and_evicted"),
+    "zeroing": (
+        UNBUILT,
+        "Guests one of whose modules is zeroed before an event: while it rests nobody can tell.",
+        # a test for each guest, since each has many runs
+        {"evicted": "a_zeroed_module_is_evicted_as_others_are",
+         "idle": "a_module_is_zeroed_between_its_calls",
+         "limit": "zeroing_beside_the_limit_is_not_told",
+         "offered": "shared_pages_are_not_zeroed",
+         "own_root": "a_zeroed_page_is_no_root",
+         "own_tables": "a_zeroed_page_is_no_table",
+         "timer": "a_stopped_module_is_zeroed",
+         "waiting": "a_waiting_module_is_zeroed",
+         "wrong_resumption": "a_zeroed_module_keeps_its_pc_and_mode"}),
 }
 # as many events as a guest of a folder may have
 ALL = 60_000
@@ -80,13 +94,32 @@ def steps(name):
     return int(found.group(1)) if found else ALL
 
 
-def lines_by_hand(name):
-    """The trace without its end as it was derived by hand, each line as a pattern: N stands for the
-    number of an event, P for an address, I for an identity."""
-    text = (HERE / "guests" / f"{name}.S").read_text()
+def pattern_of(line):
+    """The pattern of a line by hand: N stands for the number of an event, P for an address, I for
+    an identity."""
     spelled = {"N": r"\d+", "P": "[0-9a-f]{16}", "I": "[0-9a-f]{64}"}
-    return [" ".join(spelled.get(field, field) for field in line.split(" "))
-            for line in re.findall(r"^#: (.*)$", text, re.M)]
+    return " ".join(spelled.get(field, field) for field in line.split(" "))
+
+
+def lines_by_hand(name):
+    """The trace without its end as it was derived by hand, each line as a pattern."""
+    text = (HERE / "guests" / f"{name}.S").read_text()
+    return [pattern_of(line) for line in re.findall(r"^#: (.*)$", text, re.M)]
+
+
+# a run of a guest in which a module is zeroed before an event; it has so many lines of the run in
+# which none is, or all of them where this is None, and behind them these by hand and its end
+Zeroed = collections.namedtuple("Zeroed", "module event kept rest")
+
+
+def zeroings(name):
+    """The runs of a guest in which a module is zeroed: `# zeroed M@K keeps COUNT`, where the lines
+    behind these follow by hand after `#|`, or `# zeroed M@K keeps all`."""
+    text = (HERE / "guests" / f"{name}.S").read_text()
+    found = re.findall(r"^# zeroed (\d+)@(\d+) keeps (all|\d+)\n((?:#\| .*\n)*)", text, re.M)
+    return [Zeroed(int(module), int(event), None if kept == "all" else int(kept),
+                   [pattern_of(line[3:]) for line in rest.splitlines()])
+            for module, event, kept, rest in found]
 
 
 def parts(image):
@@ -183,12 +216,32 @@ def listing(name):
     out += [f'    "{line}\\n",' for line in lines] + ["];", ""]
     entry = ["    Guest {", f"        code: &{prefix}_CODE,", f"        tables: &{prefix}_TABLES,",
              f"        steps: {steps(name):_},", f"        lines: &{prefix}_LINES,", "    },"]
+    runs = zeroings(name)
+    if runs:
+        out += zeroed_listing(name, image, lines, runs)
+        entry = [f"const {prefix}: ZeroedGuest<'static> = ZeroedGuest {{", "    guest: Guest {",
+                 *entry[1:], f"    runs: &{prefix}_RUNS,", "};", ""]
     return out, entry
 
 
-def trace(name, image):
+def zeroed_listing(name, image, lines, runs):
+    """The runs of a guest in which a module is zeroed, and the lines that they don't keep."""
+    prefix, arrays, entries = name.split("/")[1].upper(), [], []
+    for run in runs:
+        kept, rest = len(lines) if run.kept is None else run.kept, "NO_LINES"
+        if run.kept is not None:
+            behind, rest = trace(name, image, run)[kept:], f"{prefix}_{run.module}_{run.event}"
+            arrays += [f"const {rest}: [&str; {len(behind)}] = ["]
+            arrays += [f'    "{line}\\n",' for line in behind] + ["];", ""]
+        entries += ["    Zeroed {", f'        place: "{run.module}@{run.event}",',
+                    f"        kept: {kept},", f"        rest: &{rest},", "    },"]
+    return arrays + [f"const {prefix}_RUNS: [Zeroed<'static>; {len(runs)}] = [", *entries, "];", ""]
+
+
+def trace(name, image, zeroed=None):
     folder = name.split("/")[0]
-    return Machine(image, settings(name)[1], FOLDERS[folder][0]).run(steps(name))
+    blind = zeroed and (zeroed.module, zeroed.event)
+    return Machine(image, settings(name)[1], FOLDERS[folder][0]).run(steps(name), blind)
 
 
 def folder_module(folder):
@@ -197,7 +250,10 @@ def folder_module(folder):
     _, about, test = FOLDERS[folder]
     out = [f"//! {about}",
            "//! Made by `tests/make` from their assembly; the traces are those of `tests/interpreter.py`.",
-           "", "use super::guest::{Guest, expect_guests};", ""]
+           ""]
+    if isinstance(test, dict):
+        return "\n".join(out + zeroed_tests(folder, found, test))
+    out += ["use super::guest::{Guest, expect_guests};", ""]
     for arrays, _ in found:
         out += arrays
     out += [f"const GUESTS: [Guest<'static>; {len(found)}] = ["]
@@ -205,6 +261,18 @@ def folder_module(folder):
     out += ["#[test]", f"fn {test}(rt: HostRuntime) {{",
             "    expect_guests(&rt, rt.alloc(), &GUESTS);", "}", ""]
     return "\n".join(out)
+
+
+def zeroed_tests(folder, found, tests):
+    """The guests in which modules are zeroed, and a test for each."""
+    parts = "NO_LINES, Zeroed, ZeroedGuest, expect_zeroed_guest"
+    out = ["use super::guest::Guest;", f"use super::zeroed_guest::{{{parts}}};", ""]
+    for name, (arrays, entry) in zip(names(folder), found):
+        stem = name.split("/")[1]
+        out += arrays + entry
+        out += ["#[test]", f"fn {tests[stem]}(rt: HostRuntime) {{",
+                f"    expect_zeroed_guest(&rt, rt.alloc(), &{stem.upper()});", "}", ""]
+    return out
 
 
 def names(folder=None):

@@ -24,10 +24,11 @@ class Machine:
     def load(self, va, size, kind):
         return memory.load(self.state, self.hart, va, size, kind)
 
-    def run(self, limit=100_000):
-        """The lines of a run of at most so many events, the last of them `end` or `unbuilt`."""
+    def run(self, limit=100_000, blind=None):
+        """The lines of a run of at most so many events, the last of them `end` or `unbuilt`.
+        `blind` is a module and the number of the event before which it is zeroed."""
         try:
-            running.run(self.state, running.rounds(1), limit)
+            running.run(self.state, running.rounds(1), limit, blind)
         except Unbuilt:
             self.state.lines.append("unbuilt")
         return self.state.lines

@@ -7,6 +7,7 @@ use bn_types::Status;
 use std::alloc::{AllocError, Global};
 use std::process::Abort;
 
+mod blind_words;
 mod calls;
 mod changed_tables;
 mod counters;
@@ -35,6 +36,8 @@ mod upper_half;
 mod user;
 mod user_pages;
 mod walk;
+mod zeroed_guest;
+mod zeroing;
 
 /// The bytes of instructions.
 fn bytes_of_code(alloc: Global, code: &[u32]) -> Result<Vec<u8>, AllocError> {

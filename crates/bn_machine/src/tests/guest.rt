@@ -2,7 +2,7 @@
 
 use super::{bytes_of_code, push_pairs, run_image};
 use bn_types::Status;
-use std::alloc::Global;
+use std::alloc::{AllocError, Global};
 use std::process::Abort;
 
 /// As many events as a guest of a table may have that shuts down.
@@ -21,16 +21,27 @@ pub struct Guest<'a> {
     pub lines: &'a [&'a str],
 }
 
-fn expect_guest(rt: &impl Abort, alloc: Global, guest: &Guest<'_>) {
-    let mut image = bytes_of_code(alloc, guest.code).expect(rt, "memory");
-    push_pairs(&mut image, guest.tables).expect(rt, "memory");
-    let status = run_image(rt, alloc, 32, u64::from(guest.steps), &image, guest.lines);
-    let wanted = if guest.steps < ALL {
+/// The bytes of a guest.
+pub fn image_of(alloc: Global, guest: &Guest<'_>) -> Result<Vec<u8>, AllocError> {
+    let mut image = bytes_of_code(alloc, guest.code)?;
+    push_pairs(&mut image, guest.tables)?;
+    Ok(image)
+}
+
+/// How a guest's run ends.
+pub fn status_of(guest: &Guest<'_>) -> Status {
+    if guest.steps < ALL {
         Status::Limit
     } else {
         Status::Ended
-    };
-    assert_eq!(rt; status, wanted);
+    }
+}
+
+/// The guest's run, in a RAM of 32 pages, has its trace.
+pub fn expect_guest(rt: &impl Abort, alloc: Global, guest: &Guest<'_>) {
+    let image = image_of(alloc, guest).expect(rt, "memory");
+    let status = run_image(rt, alloc, 32, u64::from(guest.steps), &image, guest.lines);
+    assert_eq!(rt; status, status_of(guest));
 }
 
 /// Each guest's run, in a RAM of 32 pages, has its trace.

@@ -8,7 +8,7 @@ use std::alloc::{AllocError, Global};
 use std::process::Abort;
 
 /// Prints A and shuts down.
-const HELLO: [u32; 5] = [
+pub const HELLO: [u32; 5] = [
     0x00100893, // addi x17,x0,1
     0x04100513, // addi x10,x0,65
     0x00000073, // ecall
@@ -53,7 +53,7 @@ fn desk_of(alloc: Global, bytes: Vec<u8>, fails: &[u64]) -> Result<MemDesk, Allo
 }
 
 /// Calls with the words where the only file is `a.img`, and compares the status and the text.
-fn check(
+pub fn check(
     rt: &impl Abort,
     alloc: Global,
     words: &[&str],
@@ -73,7 +73,8 @@ fn check(
     assert_eq!(rt; out.bytes(), expected.as_bytes(), "at {words:?}");
 }
 
-fn check_code(
+/// The same where the file is this code.
+pub fn check_code(
     rt: &impl Abort,
     alloc: Global,
     words: &[&str],

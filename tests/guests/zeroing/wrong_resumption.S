@@ -1,0 +1,21 @@
+# A stopped module that is zeroed goes on where it would have gone on: its pc and its mode stay. The
+# word there is zero in its image too.
+# ram 32
+#: launch N 0 1 I
+#: call N 0 0 1 0000000080010000
+#: stop 14 0 1 0000000080010008
+#: trap N 0 0000000000000002 0000000080010008
+#: deny N 0 0 fetch 0000000080010
+#: trap N 0 0000000000000001 000000008001000c
+#: deny N 0 0 fetch 0000000080030
+#: trap N 0 0000000000000001 0000000080030008
+#: trap N 0 0000000000000003 0000000080010010
+#: deny N 0 0 fetch 0000000080010
+#: trap N 0 0000000000000001 0000000080010008
+#: deny N 0 0 fetch 0000000080010
+#: trap N 0 0000000000000001 0000000080010008
+#: resume N 0 1 0000000080010008
+#: stop N 0 1 0000000080010008
+#: trap N 0 0000000000000002 0000000080010008
+# zeroed 1@15 keeps all
+    .include "switches/wrong_resumption.S"
