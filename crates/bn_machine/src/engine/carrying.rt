@@ -133,6 +133,7 @@ impl Engine {
         Ok(())
     }
 
+    #[inline(never)]
     fn load<L: Ledger>(
         &mut self,
         h: u8,
@@ -160,6 +161,7 @@ impl Engine {
         }
     }
 
+    #[inline(never)]
     fn store<L: Ledger>(
         &mut self,
         h: u8,
