@@ -2,12 +2,18 @@
 use Rattle.std.specs.Prelude.{◌≡◌, ◌≢◌, ℕ, ◌%◌, ◌<◌, Bool, true, false, List, Option, Some, None}
 use Rattle.std.specs.Prelude.{Result, Ok, Err}
 use Rattle.bn_types.specs.Numbers.{bytes_of}
+use Rattle.bn_types.specs.declared.asker.Asker.{Asker}
+use Rattle.bn_types.specs.declared.cause.Cause.{Cause}
 use Rattle.bn_types.specs.declared.fault.Fault.{Fault}
+use Rattle.bn_types.specs.declared.gpn.Gpn.{Gpn}
+use Rattle.bn_types.specs.declared.kind.Kind.{Kind}
 use Rattle.bn_types.specs.declared.width.Width.{Width}
 use Rattle.bn_model.specs.declared.place.Place.{Place}
 use Rattle.bn_model.specs.declared.owner.Owner.{Owner}
+use Rattle.bn_model.specs.Accessing.{fault, place_on}
 use Rattle.bn_model.specs.Memory.{Memory}
 use Rattle.bn_model.specs.Nesting.{Nested, contents, place}
+use Rattle.bn_model.specs.Walking.{Landing, guest_page}
 
 -- what stands behind a unit
 pub record Backing : Type 0 where
@@ -51,3 +57,18 @@ Completes (Ok done) (Ok place) = Unit {0}
 Completes (Ok done) (Err fault) = ⊥
 Completes (Err told) (Ok place) = ⊥
 Completes (Err told) (Err fault) = told ≡ fault
+
+-- the place of an address in a page
+abbrev pub at_offset : ℕ → Result Gpn Fault → Result Place Fault
+at_offset va (Ok page) = Ok (record { page = page; offset = va % 4096 })
+at_offset va (Err fault) = Err fault
+
+-- the physical page that a walk finds
+abbrev pub page_found : Result Landing Cause → Result ℕ Cause
+page_found (Ok landing) = Ok landing.ppn
+page_found (Err cause) = Err cause
+
+-- where a physical page leads
+abbrev pub place_by_page : Memory → Asker → Kind → ℕ → Result ℕ Cause → Result Place Fault
+place_by_page m who kind va (Ok ppn) = place_on m who kind va (guest_page ppn)
+place_by_page m who kind va (Err cause) = fault cause va

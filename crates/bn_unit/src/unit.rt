@@ -1,22 +1,25 @@
 ghost use Rattle.std.specs.Prelude.{◌≡◌, ℕ, List, [], ◌∷◌, ◌++◌, ◌+◌, ◌%◌, ◌^◌, ◌*◌, ◌<◌, ◌≤◌};
-ghost use Rattle.std.specs.Prelude.{◌==◌, Some, Err, IfOk, length};
+ghost use Rattle.std.specs.Prelude.{◌==◌, Some, Ok, Err, IfOk, length};
 ghost use Rattle.bn_types.specs.Numbers.{AreWhole, bytes_of};
 ghost use Rattle.bn_model.specs.Accessing.{access, answer_of_load, guest_words, number_on};
-ghost use Rattle.bn_model.specs.Accessing.{pages_after_store, pages_with, words_of_access};
+ghost use Rattle.bn_model.specs.Accessing.{pages_after_store, pages_with, place_by_walk};
+ghost use Rattle.bn_model.specs.Accessing.{walk_by, words_of_access};
 ghost use Rattle.bn_model.specs.Accessing as accessing;
 ghost use Rattle.bn_model.specs.Nesting.{IsNested, contents, place, table_frames};
 ghost use Rattle.bn_model.specs.Nesting as nesting;
 ghost use Rattle.bn_model.specs.CsrFile.{HasMode};
 ghost use Rattle.bn_model.specs.Rows.{owner_of};
-ghost use Rattle.bn_model.specs.Walking.{guest_page};
+ghost use Rattle.bn_model.specs.Memory.{visible};
+ghost use Rattle.bn_model.specs.Walking.{guest_page, tables_read, walk_of};
 ghost use Rattle.bn_model.specs.Walking as walking;
 ghost use Rattle.bn_shadow.specs.Counting.{LieInRam};
-ghost use Rattle.bn_unit.specs.Memory.{AllPlaced, Completes, IsWithin, memory_of};
+ghost use Rattle.bn_unit.specs.Memory.{AllPlaced, Completes, IsWithin, at_offset, memory_of};
+ghost use Rattle.bn_unit.specs.Memory.{page_found, place_by_page};
 
 use crate::View;
 use bn_model::Place;
 use bn_shadow::Shadow;
-use bn_types::{Asker, Cause, Fault, Frame, Gpn, Kind, NoMemory, Row, Steps, Vpn, Width};
+use bn_types::{Asker, Cause, Fault, Frame, Gpn, Kind, Mode, NoMemory, Row, Steps, Vpn, Width};
 use g_walk::walk;
 use n_walk::Nest;
 use std::alloc::Global;
@@ -96,6 +99,7 @@ impl Unit {
     /// live modules don't admit the fetch; then the fault names the page. A fetch costs four steps
     /// for each of the guest's tables that it reads, and three for its page where it reaches one,
     /// so at most 15.
+    #[inline(always)]
     pub fn fetch<L: Ledger>(
         &mut self,
         who: &Asker,
@@ -113,8 +117,10 @@ impl Unit {
             Kind.Fetch va Width.B4 }
         ensures few { steps.new ≤ steps.old + 15 }
     {
-        let place = self.reach(who, Kind::Fetch, va, Width::B4, steps)?;
-        Ok(self.read(place, Width::B4, steps) as u32)
+        match self.reach(who, Kind::Fetch, va, Width::B4, steps) {
+            Ok(page) => Ok(self.read(place_in(page, va), Width::B4, steps) as u32),
+            Err(fault) => Err(fault),
+        }
     }
 
     /// Loads the number of this width at the virtual address, little endian, in the mode and by the
@@ -128,6 +134,7 @@ impl Unit {
     /// then the fault names the page. A load costs four steps for each of the guest's tables that
     /// it reads, none where it is misaligned, and three for its page where it reaches one, so at
     /// most 15.
+    #[inline(always)]
     pub fn load<L: Ledger>(
         &mut self,
         who: &Asker,
@@ -146,8 +153,10 @@ impl Unit {
             Kind.Load va width }
         ensures few { steps.new ≤ steps.old + 15 }
     {
-        let place = self.reach(who, Kind::Load, va, width, steps)?;
-        Ok(self.read(place, width, steps))
+        match self.reach(who, Kind::Load, va, width, steps) {
+            Ok(page) => Ok(self.read(place_in(page, va), width, steps)),
+            Err(fault) => Err(fault),
+        }
     }
 
     /// Stores the low bytes of the value, as many as the width has, at the virtual address, little
@@ -162,6 +171,7 @@ impl Unit {
     /// then the fault names the page. Nothing is written then. A store costs four steps for each of
     /// the guest's tables that it reads, none where it is misaligned, and three for its page where
     /// it reaches one, so at most 15.
+    #[inline(always)]
     pub fn store<L: Ledger>(
         &mut self,
         who: &Asker,
@@ -186,9 +196,13 @@ impl Unit {
             Kind.Store va width }
         ensures few { steps.new ≤ steps.old + 15 }
     {
-        let place = self.reach(who, Kind::Store, va, width, steps)?;
-        self.write(place, width, value, steps);
-        Ok(())
+        match self.reach(who, Kind::Store, va, width, steps) {
+            Ok(page) => {
+                self.write(place_in(page, va), width, value, steps);
+                Ok(())
+            }
+            Err(fault) => Err(fault),
+        }
     }
 
     /// Enters the declarations of a launched module. Fewer than 15 modules are live, and its pages
@@ -211,7 +225,7 @@ impl Unit {
         View::of(&self.nest, &self.shadow)
     }
 
-    /// The place that an access of the kind and width reaches.
+    /// The page of the place that an access of the kind and width reaches.
     #[inline(always)]
     #[tactic(auto, unfolding(bn_model::specs::Accessing::access, bn_model::specs::Accessing::guest_words))]
     fn reach<L: Ledger>(
@@ -221,11 +235,12 @@ impl Unit {
         va: u64,
         width: Width,
         steps: &mut Steps<L>,
-    ) -> Result<Place, Fault>
+    ) -> Result<Gpn, Fault>
         requires mode { HasMode who.now.satp }
         requires fetch { kind ≡ Kind.Fetch → va % bytes_of width ≡ 0 }
-        ensures place { result ≡ access (memory_of self.now) who.now kind va width }
-        ensures within { IfOk result (λ place. IsWithin self.now.nest.ram place width) }
+        ensures place { at_offset va result ≡ access (memory_of self.now) who.now kind va width }
+        ensures within { IfOk (at_offset va result)
+            (λ place. IsWithin self.now.nest.ram place width) }
         ensures nested { IsNested self.now.nest }
         ensures walked { steps.new ≡ steps.old + guest_words (memory_of self.now) who.now kind va
             width }
@@ -236,29 +251,72 @@ impl Unit {
         if !is_aligned(kind, va, width) {
             return Err(fault_at(va, misaligned(kind)));
         }
-        match walk(
-            &self.view(),
-            who.satp,
-            va,
-            kind,
-            who.mode,
-            who.sum,
-            who.mxr,
-            steps,
-        ) {
-            Ok(leaf) => self.find_place(who, kind, va, leaf.ppn),
+        match self.translate(who, kind, va, steps) {
+            Ok(ppn) => self.find_page(who, kind, va, ppn),
             Err(cause) => Err(fault_at(va, cause)),
         }
     }
 
-    /// The place of an address that leads to this physical page.
+    /// The physical page to which an address leads.
     #[inline(always)]
-    fn find_place(&self, who: &Asker, kind: Kind, va: u64, ppn: u64) -> Result<Place, Fault>
-        ensures place { (pages : List (List ℕ)) → length pages ≡ self.now.nest.ram → result
+    #[tactic(auto, unfolding(bn_model::specs::Walking::walked))]
+    fn translate<L: Ledger>(
+        &self,
+        who: &Asker,
+        kind: Kind,
+        va: u64,
+        steps: &mut Steps<L>,
+    ) -> Result<u64, Cause>
+        requires { HasMode who.now.satp }
+        ensures place { let m = memory_of self.now in place_by_page m who.now kind va result
+            ≡ place_by_walk m who.now kind va (walk_by m who.now kind va) }
+        ensures walked { steps.new ≡ steps.old
+            + 4 * length (tables_read (visible (memory_of self.now)) who.now.satp va) }
+        ensures few { steps.new ≤ steps.old + 12 }
+    {
+        // In Bare nothing is read, so no walk is begun, whose frame each access would pay for.
+        if who.satp >> 60 == 0 {
+            return Ok(va >> 12);
+        }
+        self.walk_tables(who.satp, va, kind, who.mode, who.sum, who.mxr, steps)
+    }
+
+    /// The physical page to which the guest's tables lead an address.
+    #[inline(never)]
+    fn walk_tables<L: Ledger>(
+        &self,
+        satp: u64,
+        va: u64,
+        kind: Kind,
+        mode: Mode,
+        sum: bool,
+        mxr: bool,
+        steps: &mut Steps<L>,
+    ) -> Result<u64, Cause>
+        requires { HasMode satp }
+        ensures page { result ≡ page_found
+            (walk_of (visible (memory_of self.now)) satp va kind mode sum mxr) }
+        ensures walked { steps.new ≡ steps.old
+            + 4 * length (tables_read (visible (memory_of self.now)) satp va) }
+        ensures few { steps.new ≤ steps.old + 12 }
+    {
+        // For the prover: what holds of every unit.
+        self.facts();
+        match walk(&self.view(), satp, va, kind, mode, sum, mxr, steps) {
+            Ok(leaf) => Ok(leaf.ppn),
+            Err(cause) => Err(cause),
+        }
+    }
+
+    /// The page of RAM that is this physical page, where the rule of admission lets the access of
+    /// an address to it.
+    #[inline(always)]
+    fn find_page(&self, who: &Asker, kind: Kind, va: u64, ppn: u64) -> Result<Gpn, Fault>
+        ensures place { (pages : List (List ℕ)) → length pages ≡ self.now.nest.ram
+            → at_offset va result
             ≡ accessing.place_on (record { pages = pages; owners = self.now.live }) who.now kind va
             (guest_page ppn) }
-        ensures page { IfOk result (λ place. place.page.0 < self.now.nest.ram) }
-        ensures offset { IfOk result (λ place. place.offset ≡ va % 4096) }
+        ensures page { IfOk result (λ page. page.0 < self.now.nest.ram) }
     {
         let ram_pages = u64::from(self.nest.ram_pages());
         if ppn < RAM_START || ppn - RAM_START >= ram_pages {
@@ -266,10 +324,7 @@ impl Unit {
         }
         let page = Gpn((ppn - RAM_START) as u32);
         if self.shadow.admits(who.module, Vpn(va / 4096), page, kind) {
-            Ok(Place {
-                page,
-                offset: (va % 4096) as u16,
-            })
+            Ok(page)
         } else {
             Err(denial_of(va, kind, page))
         }
@@ -283,7 +338,8 @@ impl Unit {
     {
         match self.nest.look(page, steps) {
             Some(frame) => frame,
-            None => unreachable!(),
+            // It never comes, since each page of RAM has a frame; a trap would cost a test.
+            None => Frame(0),
         }
     }
 
@@ -313,6 +369,16 @@ impl Unit {
     {
         let frame = self.frame_of(place.page, steps);
         self.nest.store(frame, place.offset, width, value);
+    }
+}
+
+/// The place of an address in its page.
+fn place_in(page: Gpn, va: u64) -> Place
+    ensures { Ok result ≡ at_offset va (Ok page) }
+{
+    Place {
+        page,
+        offset: (va % 4096) as u16,
     }
 }
 

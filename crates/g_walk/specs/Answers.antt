@@ -3,6 +3,8 @@ use Rattle.std.specs.Prelude.{ℕ, false, Option, Some, None, Result, Ok, Err}
 use Rattle.bn_model.specs.Entries as entries
 use Rattle.bn_model.specs.Walking as walking
 use Rattle.bn_types.specs.declared.cause.Cause.{Cause}
+use Rattle.g_walk.specs.declared.descent.Descent.{Descent}
+use Rattle.g_walk.specs.declared.descent.Descent.TheVariants as descents
 use Rattle.g_walk.specs.declared.entry.EntryKind.{EntryKind}
 use Rattle.g_walk.specs.declared.entry.EntryKind.TheVariants as kinds
 use Rattle.g_walk.specs.declared.fault.LeafFault.{LeafFault}
@@ -33,9 +35,10 @@ leaf_result (Ok leaf) = Ok (landing leaf)
 leaf_result (Err e) = Err (fault e)
 
 -- where the tables end
-abbrev pub end_result : Result WalkEnd LeafFault → Result walking.WalkEnd walking.WalkFault
-end_result (Ok end) = Ok (record { ppn = end.ppn; flags = end.flags; bare = false })
-end_result (Err e) = Err (fault e)
+abbrev pub end_of : Descent → WalkEnd → Result walking.WalkEnd walking.WalkFault
+end_of descents.Found end = Ok (record { ppn = end.ppn; flags = end.flags; bare = false })
+end_of descents.NoLeaf end = Err walking.NoLeaf
+end_of descents.Refused end = Err walking.Refused
 
 abbrev pub walk_result : Result Leaf Cause → Result walking.Landing Cause
 walk_result (Ok leaf) = Ok (landing leaf)

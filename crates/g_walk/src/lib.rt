@@ -8,6 +8,7 @@ pub use permission::permit;
 pub use structure::leaf;
 
 mod access;
+mod descent;
 mod entry;
 mod fault;
 mod found;

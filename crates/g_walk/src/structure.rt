@@ -4,8 +4,10 @@ ghost use Rattle.bn_model.specs.CsrFile.{HasMode};
 ghost use Rattle.bn_model.specs.Walking.{entry_at, guest_page, index_of, is_canonical, landing_of};
 ghost use Rattle.bn_model.specs.Walking.{leaf_end, leaf_of, tables_read, walk_bare, walk_from};
 ghost use Rattle.bn_model.specs.WalkLaws.{AllFree};
-ghost use Rattle.g_walk.specs.Answers.{end_result, landing, leaf_result, table_entry};
+ghost use Rattle.g_walk.specs.Answers.{end_of, landing, leaf_result, table_entry};
+ghost use Rattle.g_walk.specs.declared.descent.Descent.TheVariants.{Found};
 
+use crate::descent::Descent;
 use crate::entry::{EntryKind, kind_of, ppn_in};
 use crate::{Leaf, LeafFault};
 use arrayvec::ArrayVec;
@@ -75,14 +77,16 @@ fn walk_tables<P: Pages, L: Ledger>(
         + 4 * length (walk_from (P.visible pages.now) va 2 root).tables }
 {
     let mut tables = ArrayVec::new();
-    match descend(pages, va, 2, root, &mut tables, steps) {
-        Ok(end) => Ok(Leaf {
+    let mut end = WalkEnd { ppn: 0, flags: 0 };
+    match descend(pages, va, 2, root, &mut tables, &mut end, steps) {
+        Descent::Found => Ok(Leaf {
             ppn: end.ppn,
             flags: end.flags,
             bare: false,
             tables,
         }),
-        Err(fault) => Err(fault),
+        Descent::NoLeaf => Err(LeafFault::Page),
+        Descent::Refused => Err(LeafFault::Refused),
     }
 }
 
@@ -149,7 +153,7 @@ fn read_entry<P: Pages, L: Ledger>(
 /// address.
 fn end_at(va: u64, level: u8, entry: u64) -> WalkEnd
     requires { level ≤ 2 }
-    ensures { end_result (Ok result) ≡ Ok (leaf_end va level entry) }
+    ensures { end_of Found result ≡ Ok (leaf_end va level entry) }
 {
     WalkEnd {
         ppn: ppn_in(entry) + (va >> 12) % (1 << (9 * level)),
@@ -158,30 +162,36 @@ fn end_at(va: u64, level: u8, entry: u64) -> WalkEnd
 }
 
 /// Walks on from the table of a level, on the page with number `ppn`, and appends the pages whose
-/// entries it reads to those that were read.
+/// entries it reads to those that were read. Where it finds a leaf, that is the end.
+///
+/// It answers by one small value, so that its call of itself comes last and costs no frame.
 fn descend<P: Pages, L: Ledger>(
     pages: &P,
     va: u64,
     level: u8,
     ppn: u64,
     tables: &mut ArrayVec<Gpn, 3>,
+    end: &mut WalkEnd,
     steps: &mut Steps<L>,
-) -> Result<WalkEnd, LeafFault>
+) -> Descent
     requires room { length tables.old.items + level ≤ 2 }
     requires few { length (P.visible pages.now) ≤ 2 ^ 32 }
-    ensures leaf { end_result result ≡ (walk_from (P.visible pages.now) va level ppn).found }
+    ensures leaf { end_of result end.new ≡ (walk_from (P.visible pages.now) va level ppn).found }
     ensures tables { tables.new.items ≡ tables.old.items
         ++ (walk_from (P.visible pages.now) va level ppn).tables }
     ensures steps { steps.new ≡ steps.old
         + 4 * length (walk_from (P.visible pages.now) va level ppn).tables }
 {
     let Some(entry) = read_entry(pages, va, level, ppn, steps) else {
-        return Err(LeafFault::Refused);
+        return Descent::Refused;
     };
     tables.push(entry.page);
     match kind_of(level, entry.word) {
-        EntryKind::Invalid => Err(LeafFault::Page),
-        EntryKind::Leaf => Ok(end_at(va, level, entry.word)),
-        EntryKind::Pointer => descend(pages, va, level - 1, ppn_in(entry.word), tables, steps),
+        EntryKind::Invalid => Descent::NoLeaf,
+        EntryKind::Leaf => {
+            *end = end_at(va, level, entry.word);
+            Descent::Found
+        }
+        EntryKind::Pointer => descend(pages, va, level - 1, ppn_in(entry.word), tables, end, steps),
     }
 }

@@ -16,6 +16,7 @@ const USER_CALL: Cause = Cause(8);
 
 impl Engine {
     /// ECALL of hart h, which runs the untrusted world.
+    #[inline(never)]
     pub(super) fn call_environment(&mut self, h: u8, lines: &mut LineBuf) -> Result<(), Unbuilt>
         requires sound { IsSound self.old.state }
         requires hart { h < length self.old.state.harts }

@@ -133,6 +133,7 @@ impl Engine {
         Ok(())
     }
 
+    #[inline(never)]
     fn load<L: Ledger>(
         &mut self,
         h: u8,
@@ -160,6 +161,7 @@ impl Engine {
         }
     }
 
+    #[inline(never)]
     fn store<L: Ledger>(
         &mut self,
         h: u8,
@@ -185,6 +187,7 @@ impl Engine {
     }
 
     /// Takes the trap of an access of a kind that failed.
+    #[inline(always)]
     pub(super) fn fail(&mut self, h: u8, kind: Kind, fault: &Fault, lines: &mut LineBuf)
         requires sound { IsSound self.old.state }
         requires hart { h < length self.old.state.harts }
@@ -199,6 +202,7 @@ impl Engine {
         }
     }
 
+    #[inline(never)]
     fn access_csr(&mut self, h: u8, asked: &CsrAsked, rd: Reg, lines: &mut LineBuf)
         requires sound { IsSound self.old.state }
         requires hart { h < length self.old.state.harts }
@@ -236,6 +240,7 @@ impl Engine {
     }
 
     /// SRET, which mode U may not execute.
+    #[inline(never)]
     fn return_or_trap(&mut self, h: u8, lines: &mut LineBuf)
         requires sound { IsSound self.old.state }
         requires hart { h < length self.old.state.harts }
@@ -251,6 +256,7 @@ impl Engine {
     }
 
     /// WFI and SFENCE.VMA, which mode U may not execute.
+    #[inline(never)]
     fn go_on_or_trap(&mut self, h: u8, lines: &mut LineBuf)
         requires sound { IsSound self.old.state }
         requires hart { h < length self.old.state.harts }

@@ -39,6 +39,7 @@ impl Engine {
     }
 
     /// Takes the trap of an access of a kind that the rule of admission denies.
+    #[inline(never)]
     pub(super) fn deny(&mut self, hart: u8, kind: Kind, va: u64, lines: &mut LineBuf)
         requires sound { IsSound self.old.state }
         requires hart { hart < length self.old.state.harts }
@@ -58,6 +59,7 @@ impl Engine {
     }
 
     /// Takes a trap; where a module runs, it is stopped first.
+    #[inline(never)]
     fn take_trap(&mut self, hart: u8, cause: Cause, value: u64, lines: &mut LineBuf)
         requires sound { IsSound self.old.state }
         requires hart { hart < length self.old.state.harts }

@@ -23,6 +23,7 @@ use std::sync::ledger::Ledger;
 
 impl Engine {
     /// A secure instruction.
+    #[inline(never)]
     pub(super) fn carry_out_secure<L: Ledger>(
         &mut self,
         h: u8,

@@ -72,6 +72,7 @@ impl Engine {
     }
 
     /// A stopped module goes on on hart h, which executes no instruction.
+    #[inline(never)]
     pub(super) fn resume(&mut self, h: u8, id: ModId, lines: &mut LineBuf)
         requires sound { IsSound self.old.state }
         requires hart { h < length self.old.state.harts }

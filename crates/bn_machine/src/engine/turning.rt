@@ -142,6 +142,7 @@ impl Engine {
     }
 
     /// Takes the trap of a fetch that failed, but where a stopped module goes on.
+    #[inline(always)]
     fn fail_fetch(&mut self, h: u8, fault: &Fault, lines: &mut LineBuf)
         requires sound { IsSound self.old.state }
         requires hart { h < length self.old.state.harts }
@@ -158,6 +159,7 @@ impl Engine {
     }
 
     /// The stopped module that goes on where hart h's fetch was denied.
+    #[inline(always)]
     fn stopped_module(&self, h: u8, fault: &Fault) -> Option<ModId>
         requires { h < length self.now.state.harts }
         ensures asked { let s = self.now.state in let hart = hart_at s h in
@@ -178,6 +180,7 @@ impl Engine {
     }
 
     /// The module that was stopped where hart h stands, on this page.
+    #[inline(never)]
     #[tactic(auto, using(crate::proofs::Switches::stopped_found))]
     fn stopped_at(&self, h: u8, page: Gpn) -> Option<ModId>
         requires hart { h < length self.now.state.harts }
