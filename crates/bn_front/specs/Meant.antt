@@ -1,5 +1,5 @@
 -- The words, and what they order, as the definitions have it.
-use Rattle.std.specs.Prelude.{◌≡◌, ℕ, true, false, List, map, Option, Some, None, option_map}
+use Rattle.std.specs.Prelude.{◌≡◌, ◌≤◌, IfSome, ℕ, true, false, List, map, Option, Some, None, option_map}
 use Rattle.std.specs.Prelude.{Result, Ok, Err, Vec}
 use Rattle.std.specs.Borrow.{Bor}
 use Rattle.std.specs.String.{string_bytes}
@@ -68,3 +68,22 @@ own_meant run = record {
 abbrev pub order_meant : Order → flat.Order
 order_meant (order.Run run) = flat.Run (own_meant run)
 order_meant (order.Gen number) = flat.Gen number
+
+-- ---- what an order is set to
+
+-- a module that is none of the untrusted world, and an event that a run can have
+abbrev pub CanBlind : Blind → Type 0
+CanBlind blind = (1 ≤ blind.blinded.0) × (blind.event ≤ 1000000000)
+
+pub record IsInRange (run : flat.RunOrder) : Type 0 where
+  pub least_pages : 16 ≤ run.ram_pages
+  pub most_pages : run.ram_pages ≤ 4096
+  pub some_harts : 1 ≤ run.harts
+  pub few_harts : run.harts ≤ 4
+  pub most_steps : run.steps ≤ 1000000000
+  pub most_moves : run.moves ≤ 1000000000
+  pub blinds : IfSome run.blind (λ blind. CanBlind blind)
+
+abbrev pub AreInRange : flat.Order → Type 0
+AreInRange (flat.Run run) = IsInRange run
+AreInRange (flat.Gen number) = Unit {0}

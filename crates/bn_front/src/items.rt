@@ -68,7 +68,8 @@ fn read_word(tool: Tool, stage: Stage, word: &str) -> Option<Step<'_>>
 }
 
 fn read_free(tool: Tool, word: &str) -> Option<Step<'_>>
-    ensures { reading_meant result ≡ flat.free_read (names_of tool) (flat.form_of word.now) word.now }
+    ensures { reading_meant result
+        ≡ flat.free_read (names_of tool) (flat.form_of word.now) word.now }
 {
     match form_of(word) {
         Form::Ordinary => Some(plain(word, Stage::Free)),

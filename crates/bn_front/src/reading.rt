@@ -1,8 +1,8 @@
 //! The whole command line.
-ghost use Rattle.std.specs.Prelude.{◌≡◌, option_map, true};
+ghost use Rattle.std.specs.Prelude.{◌≡◌, IfOk, option_map, true};
 ghost use Rattle.bn_front.specs.Items.{items_meant};
 ghost use Rattle.bn_model.specs.CommandLines as flat;
-ghost use Rattle.bn_front.specs.Meant.{Answers, bytes_of_texts, bytes_of_words, order_meant};
+ghost use Rattle.bn_front.specs.Meant.{Answers, AreInRange, bytes_of_texts, bytes_of_words, order_meant};
 
 use crate::item::Item;
 use crate::items::read_items;
@@ -19,15 +19,18 @@ use std::alloc::Global;
 /// come in place of any other answer.
 #[tactic(auto, unfolding(bn_model::specs::CommandLines::order_of, bn_model::specs::CommandLines::order_among))]
 pub fn read_words(alloc: Global, words: &[Vec<u8>]) -> Result<Order, WordsError>
-    ensures { Answers (λ order. order_meant order) (flat.order_of (bytes_of_words words.now)) result }
+    ensures read { Answers (λ order. order_meant order)
+        (flat.order_of (bytes_of_words words.now)) result }
+    ensures range { IfOk result (λ order. AreInRange (order_meant order)) }
 {
     let texts = read_texts(alloc, words)?;
     read_line(alloc, texts.as_slice())
 }
 
 fn read_line(alloc: Global, words: &[&str]) -> Result<Order, WordsError>
-    ensures { Answers (λ order. order_meant order)
+    ensures read { Answers (λ order. order_meant order)
         (flat.order_if true flat.all_names (bytes_of_texts words.now)) result }
+    ensures range { IfOk result (λ order. AreInRange (order_meant order)) }
 {
     let [name, words @ ..] = words else {
         return Err(WordsError::Words);
@@ -40,8 +43,9 @@ fn read_line(alloc: Global, words: &[&str]) -> Result<Order, WordsError>
 }
 
 fn read_run(alloc: Global, words: &[&str]) -> Result<Order, WordsError>
-    ensures { Answers (λ order. order_meant order)
+    ensures read { Answers (λ order. order_meant order)
         (flat.order_by flat.all_names flat.Running (bytes_of_texts words.now)) result }
+    ensures range { IfOk result (λ order. AreInRange (order_meant order)) }
 {
     let items = read_items(alloc, Tool::Run, words)?;
     match run_of(items.as_slice()) {
@@ -54,8 +58,9 @@ fn read_run(alloc: Global, words: &[&str]) -> Result<Order, WordsError>
 }
 
 fn read_gen(alloc: Global, words: &[&str]) -> Result<Order, WordsError>
-    ensures { Answers (λ order. order_meant order)
+    ensures read { Answers (λ order. order_meant order)
         (flat.order_by flat.all_names flat.Generating (bytes_of_texts words.now)) result }
+    ensures range { IfOk result (λ order. AreInRange (order_meant order)) }
 {
     let items = read_items(alloc, Tool::Gen, words)?;
     match number_of(items.as_slice()) {

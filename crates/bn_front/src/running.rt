@@ -1,8 +1,8 @@
 //! What the words of `run` come to.
-ghost use Rattle.std.specs.Prelude.{◌≡◌, IfOk, option_map, string_bytes};
+ghost use Rattle.std.specs.Prelude.{◌≡◌, IfOk, IfSome, option_map, string_bytes};
 ghost use Rattle.bn_model.specs.CommandLines as flat;
 ghost use Rattle.bn_front.specs.Items.{items_meant};
-ghost use Rattle.bn_front.specs.Meant.{own_meant, run_meant};
+ghost use Rattle.bn_front.specs.Meant.{IsInRange, own_meant, run_meant};
 
 use crate::item::Item;
 use crate::option_name::OptionName;
@@ -14,8 +14,9 @@ use std::alloc::{AllocError, Global};
 /// The run that these items order. None where they order none.
 #[tactic(auto, unfolding(bn_model::specs::CommandLines::run_of))]
 pub fn run_of<'a>(items: &[Item<'a>]) -> Option<RunOrderRef<'a>>
-    ensures { option_map (λ run. flat.Run (run_meant run)) result
+    ensures exact { option_map (λ run. flat.Run (run_meant run)) result
         ≡ flat.run_of (items_meant items.now) }
+    ensures range { IfSome result (λ run. IsInRange (run_meant run)) }
 {
     let image = lone_word(items)?;
     let ram_pages = number_given(items, OptionName::Ram, 1024, 16, 4096)?;

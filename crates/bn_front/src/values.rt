@@ -6,7 +6,7 @@ ghost use Rattle.bn_model.specs.Scripts as scripts;
 ghost use Rattle.bn_model.specs.Words as words;
 ghost use Rattle.bn_front.specs.Items.{item_meant, items_meant, lone, name_meant, text_if, text_in};
 ghost use Rattle.bn_front.specs.Items.{texts_of};
-ghost use Rattle.bn_front.specs.Meant.{blind_meant};
+ghost use Rattle.bn_front.specs.Meant.{CanBlind, blind_meant};
 
 use crate::item::Item;
 use crate::number::number_between;
@@ -63,7 +63,8 @@ pub fn number_given(
 /// The script's file, where it is given. None where it is given twice.
 pub fn script_given<'a>(items: &[Item<'a>]) -> Option<Option<&'a str>>
     ensures { option_map (λ found. option_map (λ text. text.now) found) result
-        ≡ flat.at_most_one None flat.file_of (flat.values_of flat.ScriptFile (items_meant items.now)) }
+        ≡ flat.at_most_one None flat.file_of
+        (flat.values_of flat.ScriptFile (items_meant items.now)) }
 {
     lone_text(items, Some(OptionName::Script))
 }
@@ -82,8 +83,10 @@ pub fn store_given(items: &[Item<'_>]) -> Option<bool>
 /// The module to be blinded, with the event, where they are given. None where they are given twice,
 /// or not as `M@K`.
 pub fn blind_given(items: &[Item<'_>]) -> Option<Option<(ModId, u64)>>
-    ensures { option_map (λ blind. option_map (λ x. blind_meant x) blind) result
-        ≡ flat.at_most_one None flat.blind_of (flat.values_of flat.Blinding (items_meant items.now)) }
+    ensures exact { option_map (λ blind. option_map (λ x. blind_meant x) blind) result
+        ≡ flat.at_most_one None flat.blind_of
+        (flat.values_of flat.Blinding (items_meant items.now)) }
+    ensures range { IfSome result (λ found. IfSome found (λ x. CanBlind (blind_meant x))) }
 {
     match lone_text(items, Some(OptionName::Blind))? {
         Some(text) => match read_blind(text.as_bytes()) {
@@ -97,7 +100,8 @@ pub fn blind_given(items: &[Item<'_>]) -> Option<Option<(ModId, u64)>>
 /// `M@K`: a module from 1 to 65,535 and an event from 0 to 1,000,000,000.
 #[tactic(auto, unfolding(bn_model::specs::CommandLines::blind_of))]
 fn read_blind(value: &[u8]) -> Option<(ModId, u64)>
-    ensures { option_map (λ blind. Some (blind_meant blind)) result ≡ flat.blind_of value.now }
+    ensures exact { option_map (λ blind. Some (blind_meant blind)) result ≡ flat.blind_of value.now }
+    ensures range { IfSome result (λ blind. CanBlind (blind_meant blind)) }
 {
     let (module, event) = halves(value)?;
     let module = number_between(module, 1, 65_535)?;
