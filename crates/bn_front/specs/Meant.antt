@@ -1,6 +1,6 @@
 -- The words, and what they order, as the definitions have it.
-use Rattle.std.specs.Prelude.{◌≡◌, ◌≤◌, IfSome, ℕ, true, false, List, map, Option, Some, None, option_map}
-use Rattle.std.specs.Prelude.{Result, Ok, Err, Vec}
+use Rattle.std.specs.Prelude.{◌≡◌, ◌≤◌, IfSome, ℕ, true, false, List, map, Option, Some, None}
+use Rattle.std.specs.Prelude.{option_map, Result, Ok, Err, Vec}
 use Rattle.std.specs.Borrow.{Bor}
 use Rattle.std.specs.String.{string_bytes}
 use Rattle.std.specs.List.{list_all}

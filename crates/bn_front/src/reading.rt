@@ -1,8 +1,9 @@
 //! The whole command line.
 ghost use Rattle.std.specs.Prelude.{◌≡◌, IfOk, option_map, true};
-ghost use Rattle.bn_front.specs.Items.{items_meant};
 ghost use Rattle.bn_model.specs.CommandLines as flat;
-ghost use Rattle.bn_front.specs.Meant.{Answers, AreInRange, bytes_of_texts, bytes_of_words, order_meant};
+ghost use Rattle.bn_front.specs.Items.{items_meant};
+ghost use Rattle.bn_front.specs.Meant.{Answers, AreInRange, bytes_of_texts, bytes_of_words};
+ghost use Rattle.bn_front.specs.Meant.{order_meant};
 
 use crate::item::Item;
 use crate::items::read_items;
@@ -69,7 +70,7 @@ fn read_gen(alloc: Global, words: &[&str]) -> Result<Order, WordsError>
     }
 }
 
-/// The number that is the only item, below 2^64. None where there is no such.
+/// The number of the one plain word, below 2^64. None where there is no such word, or number.
 #[tactic(auto, unfolding(bn_model::specs::CommandLines::gen_of))]
 fn number_of(items: &[Item<'_>]) -> Option<u64>
     ensures { option_map (λ number. flat.Gen number) result ≡ flat.gen_of (items_meant items.now) }

@@ -4,11 +4,11 @@ ghost use Rattle.bn_model.specs.CommandLines as flat;
 ghost use Rattle.bn_front.specs.Items.{items_meant};
 ghost use Rattle.bn_front.specs.Meant.{IsInRange, own_meant, run_meant};
 
+use crate::RunOrder;
 use crate::item::Item;
 use crate::option_name::OptionName;
 use crate::run_order_ref::RunOrderRef;
 use crate::values::{blind_given, lone_word, number_given, script_given, store_given};
-use crate::{RunOrder, WordsError};
 use std::alloc::{AllocError, Global};
 
 /// The run that these items order. None where they order none.

@@ -100,7 +100,8 @@ pub fn blind_given(items: &[Item<'_>]) -> Option<Option<(ModId, u64)>>
 /// `M@K`: a module from 1 to 65,535 and an event from 0 to 1,000,000,000.
 #[tactic(auto, unfolding(bn_model::specs::CommandLines::blind_of))]
 fn read_blind(value: &[u8]) -> Option<(ModId, u64)>
-    ensures exact { option_map (λ blind. Some (blind_meant blind)) result ≡ flat.blind_of value.now }
+    ensures exact { option_map (λ blind. Some (blind_meant blind)) result
+        ≡ flat.blind_of value.now }
     ensures range { IfSome result (λ blind. CanBlind (blind_meant blind)) }
 {
     let (module, event) = halves(value)?;
@@ -125,6 +126,7 @@ fn halves(value: &[u8]) -> Option<(&[u8], &[u8])>
     }
 }
 
+/// Whether an item is of this option, or with None a plain word.
 fn is_of(item: Item<'_>, option: Option<OptionName>) -> bool
     ensures { text_if result item.entry.text.now ≡ text_in option (item_meant item.entry) }
 {
