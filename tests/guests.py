@@ -9,7 +9,7 @@ import textwrap
 from interpreter import UNBUILT, Machine
 
 HERE = pathlib.Path(__file__).resolve().parent
-TESTS = HERE.parent / "crates" / "bn_machine" / "src" / "tests"
+TESTS = HERE.parent / "crates" / "bn_front" / "src" / "tests"
 PREFIX = "riscv64-unknown-elf-"
 # folders of guests that stand in one test module each: what the emulator lacks there, what they are,
 # and the test's name
@@ -39,6 +39,18 @@ FOLDERS = {
          "timer": "a_stopped_module_is_zeroed",
          "waiting": "a_waiting_module_is_zeroed",
          "wrong_resumption": "a_zeroed_module_keeps_its_pc_and_mode"}),
+    "harts": (
+        UNBUILT,
+        "Guests of several harts, with devices, each run by a script.",
+        {"devices": "devices_reach_the_pages_that_nobody_owns",
+         "four_harts": "four_harts_take_turns",
+         "ipis": "software_interrupts_reach_the_harts_that_are_named",
+         "keys": "waiting_keys_interrupt_the_first_hart_alone",
+         "launched_elsewhere": "a_launch_takes_pages_from_all_harts",
+         "resumed_elsewhere": "any_hart_resumes_a_module",
+         "resumed_once": "of_two_harts_at_a_stopped_module_one_resumes_it",
+         "starts": "a_hart_is_started_as_at_boot",
+         "two_modules": "a_module_that_runs_elsewhere_is_busy"}),
 }
 # as many events as a guest of a folder may have
 ALL = 60_000
@@ -92,6 +104,19 @@ def steps(name):
     text = (HERE / "guests" / f"{name}.S").read_text()
     found = re.search(r"^# ram \d+ steps (\d+)$", text, re.M)
     return int(found.group(1)) if found else ALL
+
+
+def harts(name):
+    """How many harts a guest has: one where it doesn't say."""
+    text = (HERE / "guests" / f"{name}.S").read_text()
+    found = re.search(r"^# harts (\d)$", text, re.M)
+    return int(found.group(1)) if found else 1
+
+
+def script(name):
+    """The lines of a guest's script."""
+    text = (HERE / "guests" / f"{name}.S").read_text()
+    return re.findall(r"^#\$ (.*)$", text, re.M)
 
 
 def pattern_of(line):
@@ -216,12 +241,24 @@ def listing(name):
     out += [f'    "{line}\\n",' for line in lines] + ["];", ""]
     entry = ["    Guest {", f"        code: &{prefix}_CODE,", f"        tables: &{prefix}_TABLES,",
              f"        steps: {steps(name):_},", f"        lines: &{prefix}_LINES,", "    },"]
-    runs = zeroings(name)
+    runs, commands = zeroings(name), script(name)
     if runs:
         out += zeroed_listing(name, image, lines, runs)
-        entry = [f"const {prefix}: ZeroedGuest<'static> = ZeroedGuest {{", "    guest: Guest {",
-                 *entry[1:], f"    runs: &{prefix}_RUNS,", "};", ""]
+    if commands:
+        out += [f"const {prefix}_SCRIPT: [&str; {len(commands)}] = ["]
+        out += [f'    "{line}\\n",' for line in commands] + ["];", ""]
+        entry = wrapped("ScriptedGuest", prefix, entry, [
+            f'    harts: "{harts(name)}",', f"    script: &{prefix}_SCRIPT,",
+            f"    runs: &{prefix}_RUNS," if runs else "    runs: &NO_RUNS,"])
+    elif runs:
+        entry = wrapped("ZeroedGuest", prefix, entry, [f"    runs: &{prefix}_RUNS,"])
     return out, entry
+
+
+def wrapped(kind, prefix, entry, fields):
+    """A guest of a table as the first field of a larger one."""
+    return [f"const {prefix}: {kind}<'static> = {kind} {{", "    guest: Guest {", *entry[1:],
+            *fields, "};", ""]
 
 
 def zeroed_listing(name, image, lines, runs):
@@ -241,7 +278,8 @@ def zeroed_listing(name, image, lines, runs):
 def trace(name, image, zeroed=None):
     folder = name.split("/")[0]
     blind = zeroed and (zeroed.module, zeroed.event)
-    return Machine(image, settings(name)[1], FOLDERS[folder][0]).run(steps(name), blind)
+    machine = Machine(image, settings(name)[1], FOLDERS[folder][0], harts(name))
+    return machine.run(steps(name), blind, "\n".join(script(name)))
 
 
 def folder_module(folder):
@@ -252,7 +290,7 @@ def folder_module(folder):
            "//! Made by `tests/make` from their assembly; the traces are those of `tests/interpreter.py`.",
            ""]
     if isinstance(test, dict):
-        return "\n".join(out + zeroed_tests(folder, found, test))
+        return "\n".join(out + tests_of_their_own(folder, found, test))
     out += ["use super::guest::{Guest, expect_guests};", ""]
     for arrays, _ in found:
         out += arrays
@@ -263,15 +301,19 @@ def folder_module(folder):
     return "\n".join(out)
 
 
-def zeroed_tests(folder, found, tests):
-    """The guests in which modules are zeroed, and a test for each."""
-    parts = "NO_LINES, Zeroed, ZeroedGuest, expect_zeroed_guest"
-    out = ["use super::guest::Guest;", f"use super::zeroed_guest::{{{parts}}};", ""]
+def tests_of_their_own(folder, found, tests):
+    """The guests of a folder, and a test for each."""
+    is_scripted = script(names(folder)[0])
+    uses = (["scripted_guest::{NO_RUNS, ScriptedGuest, expect_scripted_guest}",
+             "zeroed_guest::{NO_LINES, Zeroed}"] if is_scripted else
+            ["zeroed_guest::{NO_LINES, Zeroed, ZeroedGuest, expect_zeroed_guest}"])
+    expect = "expect_scripted_guest" if is_scripted else "expect_zeroed_guest"
+    out = ["use super::guest::Guest;"] + [f"use super::{use};" for use in uses] + [""]
     for name, (arrays, entry) in zip(names(folder), found):
         stem = name.split("/")[1]
         out += arrays + entry
         out += ["#[test]", f"fn {tests[stem]}(rt: HostRuntime) {{",
-                f"    expect_zeroed_guest(&rt, rt.alloc(), &{stem.upper()});", "}", ""]
+                f"    {expect}(&rt, rt.alloc(), &{stem.upper()});", "}", ""]
     return out
 
 

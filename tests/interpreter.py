@@ -1,7 +1,7 @@
 """A plain interpreter of the machine, written from the manuals and apart from the emulator, as the
-checks of this folder use it: one hart, a raw image, and the parts that the emulator has by now."""
+checks of this folder use it: a raw image, and the parts that the emulator has by now."""
 
-from machine import csrs, instructions, memory, running, state
+from machine import instructions, memory, running, scripts, state
 from machine.values import FETCH, MASK, PAGE, RAM, Unbuilt, signed
 
 __all__ = ["FETCH", "MASK", "RAM", "UNBUILT", "Machine", "signed"]
@@ -11,11 +11,11 @@ UNBUILT = frozenset(("sset",))
 
 
 class Machine:
-    """One hart and RAM of so many pages, with the image at its beginning."""
+    """So many harts and pages of RAM, with the image at its beginning."""
 
-    def __init__(self, image, pages, unbuilt=UNBUILT):
+    def __init__(self, image, pages, unbuilt=UNBUILT, harts=1):
         ram = bytes(image) + bytes(PAGE * pages - len(image))
-        self.state = state.Machine(ram, unbuilt=unbuilt)
+        self.state = state.Machine(ram, harts=harts, unbuilt=unbuilt)
         self.hart = self.state.harts[0]
 
     def execute(self, word):
@@ -24,11 +24,13 @@ class Machine:
     def load(self, va, size, kind):
         return memory.load(self.state, self.hart, va, size, kind)
 
-    def run(self, limit=100_000, blind=None):
+    def run(self, limit=100_000, blind=None, script=""):
         """The lines of a run of at most so many events, the last of them `end` or `unbuilt`.
         `blind` is a module and the number of the event before which it is zeroed."""
+        harts = len(self.state.harts)
+        events = scripts.events(scripts.read(script.encode(), harts), harts)
         try:
-            running.run(self.state, running.rounds(1), limit, blind)
+            running.run(self.state, events, limit, blind)
         except Unbuilt:
             self.state.lines.append("unbuilt")
         return self.state.lines

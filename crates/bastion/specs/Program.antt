@@ -3,7 +3,7 @@ use Rattle.std.specs.Prelude.{◌≡◌, ℕ, ◌⊎◌, List, Option}
 use Rattle.bn_types.specs.declared.status.Status.{Status}
 use Rattle.bn_types.specs.declared.status.Status.TheVariants.{Memory}
 use Rattle.bn_edge.specs.CommandLine.{AreTold}
-use Rattle.bn_machine.specs.Headline.{Outside, Promise}
+use Rattle.bn_front.specs.Headline.{Outside, Promise}
 
 -- the promise of the words is kept: of those that the command line tells, where it tells them
 pub record KeepsPromise (told : Option (List (List ℕ))) (status : Status) (old new : Outside) :

@@ -5,7 +5,7 @@
 ghost use Rattle.std.specs.Prelude.{◌≡◌};
 ghost use Rattle.std.specs.Process.{exit_status};
 ghost use Rattle.bn_types.specs.ExitCodes.{exit_code};
-ghost use Rattle.bn_machine.specs.Headline.{outside};
+ghost use Rattle.bn_front.specs.Headline.{outside};
 ghost use Rattle.bastion.specs.Program.{AnswersWords};
 
 use bn_edge::{Desk, FileDesk, HostWords, OutSink, Sink, Words, gather_words};
@@ -30,7 +30,7 @@ fn run<W: Words, D: Desk, O: Sink>(alloc: Global, words: &W, desk: &mut D, out: 
         (outside (D.account desk.new) (O.account out.new)) }
 {
     match gather_words(alloc, words) {
-        Ok(words) => bn_machine::bastion(alloc, &words, desk, out),
+        Ok(words) => bn_front::bastion(alloc, &words, desk, out),
         Err(_) => Status::Memory,
     }
 }

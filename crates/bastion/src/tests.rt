@@ -77,11 +77,11 @@ fn every_word_counts(rt: HostRuntime) -> Result<(), Fail> {
         ),
         (
             &[b"run", b"a", b"--ram", b"16", b"--steps", b"5", b"x"],
-            Status::Unbuilt,
+            Status::Words,
         ),
-        (&[b"run", b"a", b""], Status::Unbuilt),
-        (&[b"run", b"", b"a"], Status::Unbuilt),
-        (&[], Status::Unbuilt),
+        (&[b"run", b"a", b""], Status::Words),
+        (&[b"run", b"", b"a"], Status::Words),
+        (&[], Status::Words),
     ];
     for (words, want) in cases {
         let (status, _) = answer(rt.alloc(), words_of(rt.alloc(), words)?, b"a")?;
@@ -97,8 +97,8 @@ fn many_words_are_all_gathered(rt: HostRuntime) -> Result<(), Fail> {
         words.push(Vec::from_slice(rt.alloc(), b"x")?)?;
     }
     let (status, text) = answer(rt.alloc(), words, b"a")?;
-    assert_eq!(rt; status, Status::Unbuilt);
-    assert!(rt; text.as_slice() == b"unbuilt\n".as_slice());
+    assert_eq!(rt; status, Status::Words);
+    assert!(rt; text.as_slice() == b"words\n".as_slice());
     Ok(())
 }
 
@@ -106,11 +106,16 @@ fn many_words_are_all_gathered(rt: HostRuntime) -> Result<(), Fail> {
 fn each_status_has_its_code(rt: HostRuntime) {
     for (status, code) in [
         (Status::Ended, 0),
+        (Status::Words, 2),
         (Status::Limit, 3),
         (Status::NoFile, 4),
         (Status::Image, 5),
+        (Status::Script, 6),
+        (Status::Store, 7),
         (Status::SinkFault, 8),
         (Status::DeskFault, 9),
+        (Status::VaultFault, 10),
+        (Status::ChipFault, 11),
         (Status::Unbuilt, 12),
         (Status::Memory, 71),
     ] {

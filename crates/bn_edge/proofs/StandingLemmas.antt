@@ -1,10 +1,15 @@
 -- How a vault in memory goes on: its texts grow, and one moment more joins the others.
-use Rattle.std.proofs.Common.{◌≡◌, ℕ, zero, suc, ◌+◌, ◌*◌, ◌<◌, ◌≤◌, ◌⊎◌, inl, inr, ⊎_elim, Bool, true, false, ◌||◌, List, [], ◌∷◌, ◌++◌, All, length, take, drop, refl, sym, ◌∙◌, ap, subst, arith, length-append, length-drop}
+use Rattle.std.proofs.Common.{◌≡◌, ℕ, zero, suc, ◌+◌, ◌*◌, ◌<◌, ◌≤◌, ◌⊎◌, inl, inr, ⊎_elim, Bool}
+use Rattle.std.proofs.Common.{true, false, ◌||◌, List, [], ◌∷◌, ◌++◌, All, length, take, drop, refl}
+use Rattle.std.proofs.Common.{sym, ◌∙◌, ap, subst, arith, length-append, length-drop}
 use Rattle.std.proofs.lemmas.List.{append-nil, take-append-le, drop-append-le, length-take-le}
-use Rattle.std.proofs.lemmas.List.Elements.{All-nil, All-cons, All-head, All-tail, All-drop, All-push, All-weaker}
+use Rattle.std.proofs.lemmas.List.Elements.{All-nil, All-cons, All-head, All-tail, All-drop}
+use Rattle.std.proofs.lemmas.List.Elements.{All-push, All-weaker}
 use Rattle.bn_edge.specs.Areas.{Areas, area_room, area_at, other_area, with_area, IsTorn}
 use Rattle.bn_edge.specs.Crashes.{Elapses}
-use Rattle.bn_edge.specs.Standings.{account_at, text_at, areas_at, span_of, with_span, synced, is_loose, LeavesText, LeavesText-itself, Leaves, HadLeft, LeftSince, IsText, AreTexts, due, IsKept}
+use Rattle.bn_edge.specs.Standings.{account_at, text_at, areas_at, span_of, with_span, synced}
+use Rattle.bn_edge.specs.Standings.{is_loose, LeavesText, LeavesText-itself, Leaves, HadLeft}
+use Rattle.bn_edge.specs.Standings.{LeftSince, IsText, AreTexts, due, IsKept}
 use Rattle.bn_edge.specs.declared.area.Area.{Area}
 use Rattle.bn_edge.specs.declared.area.Area.TheVariants.{First, Second}
 use Rattle.bn_edge.specs.declared.span.Span.{Span}

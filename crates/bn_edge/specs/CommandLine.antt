@@ -1,5 +1,6 @@
 -- The words of a command line, which may not be told.
-use Rattle.std.specs.Prelude.{◌≡◌, ℕ, ◌≤◌, ◌<◌, List, [], get_or, length, map, take, Option, Some, None, Result, Ok, Err, Vec, IfSome}
+use Rattle.std.specs.Prelude.{◌≡◌, ℕ, ◌≤◌, ◌<◌, List, [], get_or, length, map, take, Option, Some}
+use Rattle.std.specs.Prelude.{None, Result, Ok, Err, Vec, IfSome}
 use Rattle.std.specs.declared.alloc.Global.{Global}
 use Rattle.bn_edge.specs.declared.word_fault.WordFault.{WordFault}
 use Rattle.bn_edge.specs.declared.word_fault.WordFault.TheVariants.{Past, Long}

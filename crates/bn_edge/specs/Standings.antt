@@ -1,6 +1,7 @@
 -- A vault in memory: the texts that were ever in its areas, one after another, how the areas stood
 -- at each moment, and how they stand now.
-use Rattle.std.specs.Prelude.{◌≡◌, ℕ, ◌+◌, ◌*◌, ◌≤◌, ◌⊎◌, Bool, true, false, ◌||◌, List, [], ◌∷◌, All, Some, length, take, drop, unwrap_or}
+use Rattle.std.specs.Prelude.{◌≡◌, ℕ, ◌+◌, ◌*◌, ◌≤◌, ◌⊎◌, Bool, true, false, ◌||◌, List, [], ◌∷◌}
+use Rattle.std.specs.Prelude.{All, Some, length, take, drop, unwrap_or}
 use Rattle.std.proofs.Common.{inl, inr, refl, ap, subst}
 use Rattle.bn_edge.specs.Accounts.{VaultAccount}
 use Rattle.bn_edge.specs.Areas.{Areas, area_room}

@@ -1,4 +1,5 @@
-ghost use Rattle.std.specs.Prelude.{◌≡◌, ℕ, ◌-◌, ◌^◌, ◌<◌, ◌≤◌, Err, List, None, Option, IfOk, OnErr, length, take, vec_len};
+ghost use Rattle.std.specs.Prelude.{◌≡◌, ℕ, ◌-◌, ◌^◌, ◌<◌, ◌≤◌, Err, List, None, Option, IfOk};
+ghost use Rattle.std.specs.Prelude.{OnErr, length, take, vec_len};
 ghost use Rattle.bn_edge.specs.Counts.{CountsFaults, CountsMisses};
 ghost use Rattle.bn_edge.specs.Files.{Agrees};
 ghost use Rattle.std.specs.Io.{ReadsAtMost};

@@ -24,6 +24,7 @@ pub use vault::Vault;
 pub use vault_failed::VaultFailed;
 pub use word_fault::WordFault;
 pub use words::Words;
+pub use writing::write_all;
 
 mod area;
 mod area_fault;
@@ -55,3 +56,4 @@ mod vault;
 mod vault_failed;
 mod word_fault;
 mod words;
+mod writing;

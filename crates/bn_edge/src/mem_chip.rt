@@ -1,4 +1,5 @@
-ghost use Rattle.std.specs.Prelude.{◌≡◌, ℕ, ◌+◌, ◌-◌, ◌^◌, ◌<◌, ◌≤◌, ◌↔◌, Some, IfOk, IsErr, OnOk, OnErr, Contains};
+ghost use Rattle.std.specs.Prelude.{◌≡◌, ℕ, ◌+◌, ◌-◌, ◌^◌, ◌<◌, ◌≤◌, ◌↔◌, Some, IfOk, IsErr, OnOk};
+ghost use Rattle.std.specs.Prelude.{OnErr, Contains};
 ghost use Rattle.bn_edge.specs.Counts.{CanCount, CountsRefusals};
 ghost use Rattle.bn_edge.specs.InMemory.{ChipContents};
 ghost use Rattle.bn_edge.specs.Registers.{GivesRegister, replaced, IsOldOrNew};

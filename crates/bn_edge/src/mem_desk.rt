@@ -1,4 +1,6 @@
-ghost use Rattle.std.specs.Prelude.{◌≡◌, ℕ, ◌+◌, ◌-◌, ◌^◌, ◌<◌, ◌≤◌, ◌↔◌, [], Some, Err, IfOk, IsErr, OnErr, IsTrue, min, length, take, Contains, vec_len, option_map, option_copied};
+ghost use Rattle.std.specs.Prelude.{◌≡◌, ℕ, ◌+◌, ◌-◌, ◌^◌, ◌<◌, ◌≤◌, ◌↔◌, [], Some, Err, IfOk};
+ghost use Rattle.std.specs.Prelude.{IsErr, OnErr, IsTrue, min, length, take, Contains, vec_len};
+ghost use Rattle.std.specs.Prelude.{option_map, option_copied};
 ghost use Rattle.bn_edge.specs.Counts.{CanCount, CountsMisses, CountsFaults};
 ghost use Rattle.bn_edge.specs.Files.{Agrees, file_named};
 ghost use Rattle.bn_edge.specs.InMemory.{DeskContents, named_bytes};

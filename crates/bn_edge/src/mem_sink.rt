@@ -1,4 +1,6 @@
-ghost use Rattle.std.specs.Prelude.{◌≡◌, ℕ, ◌+◌, ◌-◌, ◌^◌, ◌<◌, ◌≤◌, ◌↔◌, ◌⊎◌, [], Some, IfOk, IsErr, OnErr, IsTrue, min, length, take, Contains, vec_capacity};
+ghost use Rattle.std.specs.Prelude.{◌≡◌, ℕ, ◌+◌, ◌-◌, ◌^◌, ◌<◌, ◌≤◌, ◌↔◌, ◌⊎◌, [], Some, IfOk};
+ghost use Rattle.std.specs.Prelude.{IsErr, OnErr, IsTrue, min, length, take, Contains};
+ghost use Rattle.std.specs.Prelude.{vec_capacity};
 ghost use Rattle.bn_edge.specs.Counts.{CanCount, CountsRefusals};
 ghost use Rattle.bn_edge.specs.InMemory.{SinkContents, SinkRefuses};
 ghost use Rattle.bn_edge.specs.Written.{appended};

@@ -1,8 +1,14 @@
-ghost use Rattle.std.specs.Prelude.{◌≡◌, ℕ, ◌+◌, ◌*◌, ◌-◌, ◌^◌, ◌<◌, ◌≤◌, ◌↔◌, ◌⊎◌, true, false, [], ◌∷◌, ◌++◌, List, Some, Err, IfOk, IsErr, OnOk, OnErr, IsTrue, Contains, length, vec_len, vec_capacity};
-ghost use Rattle.bn_edge.specs.Areas.{Areas, area_room, area_at, GivesArea, written, IsTorn, MayBeTorn};
+ghost use Rattle.std.specs.Prelude.{◌≡◌, ℕ, ◌+◌, ◌*◌, ◌-◌, ◌^◌, ◌<◌, ◌≤◌, ◌↔◌, ◌⊎◌, true, false};
+ghost use Rattle.std.specs.Prelude.{[], ◌∷◌, ◌++◌, List, Some, Err, IfOk, IsErr, OnOk, OnErr};
+ghost use Rattle.std.specs.Prelude.{IsTrue, Contains, length, vec_len, vec_capacity};
+ghost use Rattle.bn_edge.specs.Areas.{Areas, area_room, area_at, GivesArea, written, IsTorn};
+ghost use Rattle.bn_edge.specs.Areas.{MayBeTorn};
 ghost use Rattle.bn_edge.specs.Counts.{CanCount, CountsRefusals, CountsAreaFaults};
-ghost use Rattle.bn_edge.specs.Crashes.{Elapses, Follows, LeavesNoMore, LeavesTheSame, LeavesWhatIsRead};
-ghost use Rattle.bn_edge.specs.Standings.{VaultContents, account_of, areas_at, text_at, span_of, with_span, synced, is_loose, Leaves, LeftSince, reads_now, only_this, IsKept};
+ghost use Rattle.bn_edge.specs.Crashes.{Elapses, Follows, LeavesNoMore, LeavesTheSame};
+ghost use Rattle.bn_edge.specs.Crashes.{LeavesWhatIsRead};
+ghost use Rattle.bn_edge.specs.Standings.{VaultContents, account_of, areas_at, text_at, span_of};
+ghost use Rattle.bn_edge.specs.Standings.{with_span, synced, is_loose, Leaves, LeftSince};
+ghost use Rattle.bn_edge.specs.Standings.{reads_now, only_this, IsKept};
 ghost use Rattle.std.proofs.Common.{inl};
 
 use crate::counted::counted;

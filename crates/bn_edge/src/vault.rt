@@ -2,7 +2,8 @@ ghost use Rattle.std.specs.Prelude.{◌≡◌, ℕ, ◌≤◌, Some, IfOk, OnOk,
 ghost use Rattle.bn_edge.specs.Accounts.{VaultAccount};
 ghost use Rattle.bn_edge.specs.Areas.{Areas, area_room, GivesArea, written, IsTorn, MayBeTorn};
 ghost use Rattle.bn_edge.specs.Counts.{CountsRefusals, CountsAreaFaults};
-ghost use Rattle.bn_edge.specs.Crashes.{Elapses, Follows, LeavesNoMore, LeavesTheSame, LeavesWhatIsRead};
+ghost use Rattle.bn_edge.specs.Crashes.{Elapses, Follows, LeavesNoMore, LeavesTheSame};
+ghost use Rattle.bn_edge.specs.Crashes.{LeavesWhatIsRead};
 
 use crate::{Area, AreaFault, VaultFailed};
 use std::alloc::Global;

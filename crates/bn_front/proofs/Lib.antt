@@ -1,5 +1,13 @@
+pub mod Beginnings
 pub mod FormLemmas
+pub mod ImageLemmas
 pub mod ItemLemmas
 pub mod NumberLemmas
+pub mod OrderLemmas
+pub mod Reached
+pub mod Readings
+pub mod ScriptFiles
+pub mod Serving
+pub mod Stories
 pub mod TextLemmas
 pub mod ValueLemmas

@@ -8,7 +8,7 @@ use Rattle.std.proofs.lemmas.Fmt.{decimal_is_IsNumeral}
 use Rattle.std.proofs.lemmas.Slice.Eq.{bytes_eq-Decides}
 use Rattle.bn_types.specs.Numerals.{numeral_below}
 use Rattle.bn_types.proofs.NumeralLemmas.{numeral_again, numeral_parts, numeral_spelled}
-use Rattle.bn_model.specs.Words.{is_between, is_number, number_between, number_if}
+use Rattle.bn_model.specs.CommandLines.{is_between, is_number, number_between, number_if}
 
 -- a numeral is a number where it is in the range
 pub numeral_between : (least most n : ℕ) (word : List ℕ)

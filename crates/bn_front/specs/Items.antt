@@ -24,11 +24,10 @@ name_meant option.Steps = flat.Steps
 name_meant option.Script = flat.ScriptFile
 name_meant option.Store = flat.Store
 name_meant option.Blind = flat.Blinding
-name_meant option.Move = flat.Moves
 
 -- the options of a tool
 abbrev pub names_of : Tool → List flat.Name
-names_of tool.Run = flat.all_names
+names_of tool.Run = flat.still_names
 names_of tool.Gen = []
 
 abbrev pub form_meant : Form → flat.Form

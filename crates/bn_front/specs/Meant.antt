@@ -81,7 +81,7 @@ pub record IsInRange (run : flat.RunOrder) : Type 0 where
   pub some_harts : 1 ≤ run.harts
   pub few_harts : run.harts ≤ 4
   pub most_steps : run.steps ≤ 1000000000
-  pub most_moves : run.moves ≤ 1000000000
+  pub still : run.moves ≡ 0
   pub blinds : IfSome run.blind (λ blind. CanBlind blind)
 
 abbrev pub AreInRange : flat.Order → Type 0

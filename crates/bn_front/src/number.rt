@@ -1,6 +1,6 @@
 //! Numbers among the words.
 ghost use Rattle.std.specs.Prelude.{◌≡◌, ◌≤◌, IfSome};
-ghost use Rattle.bn_model.specs.Words as flat;
+ghost use Rattle.bn_model.specs.CommandLines as flat;
 
 use bn_types::read_numeral;
 

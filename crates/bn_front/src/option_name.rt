@@ -15,7 +15,6 @@ pub enum OptionName {
     Script,
     Store,
     Blind,
-    Move,
 }
 
 impl OptionName {
@@ -37,7 +36,6 @@ impl OptionName {
             OptionName::Script => "script",
             OptionName::Store => "store",
             OptionName::Blind => "blind",
-            OptionName::Move => "move",
         }
     }
 
@@ -68,11 +66,10 @@ pub fn option_named(tool: Tool, name: &str) -> Option<OptionName>
 }
 
 fn run_option_named(name: &str) -> Option<OptionName>
-    ensures { option_map (λ option. name_meant option) result ≡ flat.named flat.all_names name.now }
+    ensures { option_map (λ option. name_meant option) result
+        ≡ flat.named flat.still_names name.now }
 {
-    if OptionName::Move.is_named(name) {
-        Some(OptionName::Move)
-    } else if OptionName::Ram.is_named(name) {
+    if OptionName::Ram.is_named(name) {
         Some(OptionName::Ram)
     } else if OptionName::Harts.is_named(name) {
         Some(OptionName::Harts)

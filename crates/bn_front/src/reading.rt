@@ -18,10 +18,10 @@ use std::alloc::Global;
 /// What the words after the program's name order: `run`, one image and options, or `gen` and a
 /// number. Words exactly where they are no such command line; Memory is want of memory, which may
 /// come in place of any other answer.
-#[tactic(auto, unfolding(bn_model::specs::CommandLines::order_of, bn_model::specs::CommandLines::order_among))]
+#[tactic(auto, unfolding(bn_model::specs::CommandLines::order_among))]
 pub fn read_words(alloc: Global, words: &[Vec<u8>]) -> Result<Order, WordsError>
     ensures read { Answers (λ order. order_meant order)
-        (flat.order_of (bytes_of_words words.now)) result }
+        (flat.order_among flat.still_names (bytes_of_words words.now)) result }
     ensures range { IfOk result (λ order. AreInRange (order_meant order)) }
 {
     let texts = read_texts(alloc, words)?;
@@ -30,7 +30,7 @@ pub fn read_words(alloc: Global, words: &[Vec<u8>]) -> Result<Order, WordsError>
 
 fn read_line(alloc: Global, words: &[&str]) -> Result<Order, WordsError>
     ensures read { Answers (λ order. order_meant order)
-        (flat.order_if true flat.all_names (bytes_of_texts words.now)) result }
+        (flat.order_if true flat.still_names (bytes_of_texts words.now)) result }
     ensures range { IfOk result (λ order. AreInRange (order_meant order)) }
 {
     let [name, words @ ..] = words else {
@@ -45,7 +45,7 @@ fn read_line(alloc: Global, words: &[&str]) -> Result<Order, WordsError>
 
 fn read_run(alloc: Global, words: &[&str]) -> Result<Order, WordsError>
     ensures read { Answers (λ order. order_meant order)
-        (flat.order_by flat.all_names flat.Running (bytes_of_texts words.now)) result }
+        (flat.order_by flat.still_names flat.Running (bytes_of_texts words.now)) result }
     ensures range { IfOk result (λ order. AreInRange (order_meant order)) }
 {
     let items = read_items(alloc, Tool::Run, words)?;
@@ -60,7 +60,7 @@ fn read_run(alloc: Global, words: &[&str]) -> Result<Order, WordsError>
 
 fn read_gen(alloc: Global, words: &[&str]) -> Result<Order, WordsError>
     ensures read { Answers (λ order. order_meant order)
-        (flat.order_by flat.all_names flat.Generating (bytes_of_texts words.now)) result }
+        (flat.order_by flat.still_names flat.Generating (bytes_of_texts words.now)) result }
     ensures range { IfOk result (λ order. AreInRange (order_meant order)) }
 {
     let items = read_items(alloc, Tool::Gen, words)?;

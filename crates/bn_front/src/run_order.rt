@@ -18,7 +18,6 @@ pub struct RunOrder {
     /// The module that is blinded, from 1, and the event before which it is, from 0 to
     /// 1,000,000,000.
     pub blind: Option<(ModId, u64)>,
-    /// After how many events a page is moved to another frame, from 0 to 1,000,000,000. With 0
-    /// none is.
+    /// After how many events a page is moved to another frame, or 0 where none is. Always 0 yet.
     pub moves: u64,
 }

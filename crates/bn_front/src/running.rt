@@ -11,8 +11,8 @@ use crate::run_order_ref::RunOrderRef;
 use crate::values::{blind_given, lone_word, number_given, script_given, store_given};
 use std::alloc::{AllocError, Global};
 
-/// The run that these items order. None where they order none.
-#[tactic(auto, unfolding(bn_model::specs::CommandLines::run_of))]
+/// The run that these items order. None where they order none. No page is moved to another frame.
+#[tactic(auto, unfolding(bn_model::specs::CommandLines::run_of), using(crate::proofs::OrderLemmas::still_moves))]
 pub fn run_of<'a>(items: &[Item<'a>]) -> Option<RunOrderRef<'a>>
     ensures exact { option_map (λ run. flat.Run (run_meant run)) result
         ≡ flat.run_of (items_meant items.now) }
@@ -25,7 +25,6 @@ pub fn run_of<'a>(items: &[Item<'a>]) -> Option<RunOrderRef<'a>>
     let script = script_given(items)?;
     let store = store_given(items)?;
     let blind = blind_given(items)?;
-    let moves = number_given(items, OptionName::Move, 0, 0, 1_000_000_000)?;
     Some(RunOrderRef {
         image,
         ram_pages: ram_pages as u32,
@@ -34,7 +33,7 @@ pub fn run_of<'a>(items: &[Item<'a>]) -> Option<RunOrderRef<'a>>
         script,
         store,
         blind,
-        moves,
+        moves: 0,
     })
 }
 

@@ -1,384 +1,180 @@
-use crate::run_order_ref::RunOrderRef;
-use crate::{Order, RunOrder, WordsError, read_words};
-use bn_types::ModId;
+use crate::bastion;
+use bn_edge::{MemDesk, MemSink};
+use bn_types::Status;
 use std::alloc::{AllocError, Global};
-use std::test::Fail;
+use std::process::Abort;
 
-// What `run a.img` orders.
-const PLAIN: RunOrderRef<'static> = RunOrderRef {
-    image: "a.img",
-    ram_pages: 1024,
-    harts: 1,
-    steps: 1_000_000,
-    script: None,
-    store: false,
-    blind: None,
-    moves: 0,
-};
+mod blind_words;
+mod called;
+mod calls;
+mod changed_tables;
+mod command_lines;
+mod counters;
+mod elf;
+mod execution;
+mod gigapages;
+mod guest;
+mod harts;
+mod hello;
+mod interrupts;
+mod launches;
+mod non_canonical;
+mod outside;
+mod owned_pages;
+mod permissions;
+mod precedence;
+mod probe;
+mod registers;
+mod roots;
+mod scripted_guest;
+mod scripts;
+mod secure_words;
+mod superpages;
+mod switches;
+mod top;
+mod trap_values;
+mod upper_half;
+mod user;
+mod user_pages;
+mod waiting_keys;
+mod walk;
+mod words;
+mod zeroed_guest;
+mod zeroing;
 
-// Command lines of `run`, with a space between the words, and what they order.
-static RUNS: [(&str, RunOrderRef<'static>); 22] = [
-    ("run a.img", PLAIN),
-    (
-        "run a.img --ram 16 --harts 4 --steps 0 --script s.txt --store --blind 1@0 --move 0",
-        RunOrderRef {
-            image: "a.img",
-            ram_pages: 16,
-            harts: 4,
-            steps: 0,
-            script: Some("s.txt"),
-            store: true,
-            blind: Some((ModId(1), 0)),
-            moves: 0,
-        },
-    ),
-    (
-        "run --move=1000000000 --blind=65535@1000000000 --store --script=s --steps=1000000000 \
-         --harts=3 --ram=4096 b.img",
-        RunOrderRef {
-            image: "b.img",
-            ram_pages: 4096,
-            harts: 3,
-            steps: 1_000_000_000,
-            script: Some("s"),
-            store: true,
-            blind: Some((ModId(65_535), 1_000_000_000)),
-            moves: 1_000_000_000,
-        },
-    ),
-    (
-        "run --ram 17 a.img --harts=2",
-        RunOrderRef {
-            ram_pages: 17,
-            harts: 2,
-            ..PLAIN
-        },
-    ),
-    (
-        "run --store a.img",
-        RunOrderRef {
-            store: true,
-            ..PLAIN
-        },
-    ),
-    (
-        "run a.img --blind 2@3",
-        RunOrderRef {
-            blind: Some((ModId(2), 3)),
-            ..PLAIN
-        },
-    ),
-    ("run a.img --move 7", RunOrderRef { moves: 7, ..PLAIN }),
-    ("run a.img --steps 10", RunOrderRef { steps: 10, ..PLAIN }),
-    // a lone `-` is a word like others
-    (
-        "run -",
-        RunOrderRef {
-            image: "-",
-            ..PLAIN
-        },
-    ),
-    (
-        "run a.img --script -",
-        RunOrderRef {
-            script: Some("-"),
-            ..PLAIN
-        },
-    ),
-    // a value in the same word may begin with `-`, and goes to the word's end
-    (
-        "run a.img --script=-",
-        RunOrderRef {
-            script: Some("-"),
-            ..PLAIN
-        },
-    ),
-    (
-        "run a.img --script=--steps",
-        RunOrderRef {
-            script: Some("--steps"),
-            ..PLAIN
-        },
-    ),
-    (
-        "run a.img --script=a=b",
-        RunOrderRef {
-            script: Some("a=b"),
-            ..PLAIN
-        },
-    ),
-    (
-        "run a.img --script==",
-        RunOrderRef {
-            script: Some("="),
-            ..PLAIN
-        },
-    ),
-    (
-        "run a.img --script a=b",
-        RunOrderRef {
-            script: Some("a=b"),
-            ..PLAIN
-        },
-    ),
-    (
-        "run a=b",
-        RunOrderRef {
-            image: "a=b",
-            ..PLAIN
-        },
-    ),
-    // after the first `--` every word is plain
-    ("run a.img --", PLAIN),
-    ("run --steps=5 -- a.img", RunOrderRef { steps: 5, ..PLAIN }),
-    (
-        "run -- --steps",
-        RunOrderRef {
-            image: "--steps",
-            ..PLAIN
-        },
-    ),
-    (
-        "run -- -h",
-        RunOrderRef {
-            image: "-h",
-            ..PLAIN
-        },
-    ),
-    (
-        "run -- --",
-        RunOrderRef {
-            image: "--",
-            ..PLAIN
-        },
-    ),
-    (
-        "run é√ --script=é",
-        RunOrderRef {
-            image: "é√",
-            script: Some("é"),
-            ..PLAIN
-        },
-    ),
+/// Prints A and shuts down.
+const HELLO: [u32; 5] = [
+    0x00100893, // addi x17,x0,1
+    0x04100513, // addi x10,x0,65
+    0x00000073, // ecall
+    0x00800893, // addi x17,x0,8
+    0x00000073, // ecall
 ];
 
-static NUMBERS: [(&str, u64); 5] = [
-    ("gen 0", 0),
-    ("gen 10", 10),
-    ("gen 18446744073709551615", u64::MAX),
-    ("gen 7 --", 7),
-    ("gen -- 7", 7),
-];
-
-// Words that are no command line. Where two spaces meet, and at an end, a word is empty.
-static REFUSED: [&str; 104] = [
-    // the first word
-    "",
-    "walk a.img",
-    "Run a.img",
-    "ru a.img",
-    "runs a.img",
-    "run=a.img",
-    "a.img run",
-    "--store run a.img",
-    "-- run a.img",
-    // plain words
-    "run",
-    "run --store",
-    "run --",
-    "run a.img b.img",
-    "run a.img -- b.img",
-    "run -- a.img b.img",
-    "run ",
-    "run  a.img",
-    "run a.img ",
-    "run -- ",
-    // options that come twice
-    "run a.img --steps 5 --steps 5",
-    "run --ram 16 a.img --ram=16",
-    "run a.img --harts=1 --harts=1",
-    "run a.img --script s --script s",
-    "run a.img --store --store",
-    "run a.img --blind 1@0 --blind=1@0",
-    "run a.img --move 0 --move 0",
-    // values that are missing, or empty
-    "run a.img --steps",
-    "run a.img --steps=",
-    "run a.img --steps ",
-    "run a.img --script",
-    "run a.img --script=",
-    "run a.img --script ",
-    "run a.img --blind=",
-    "run --steps a.img",
-    // in a word of its own no value begins with `-`, unless it is `-`
-    "run a.img --steps -5",
-    "run a.img --steps --",
-    "run a.img --steps -- 5",
-    "run a.img --script -s",
-    "run a.img --script --",
-    "run a.img --script --store",
-    "run a.img --script --script=s",
-    "run a.img --blind -1@0",
-    // a value where none is taken
-    "run a.img --store=",
-    "run a.img --store=1",
-    "run a.img --store=true",
-    "run a.img --store true",
-    // abbreviations and other names
-    "run a.img --step 5",
-    "run a.img --s",
-    "run a.img --stor",
-    "run a.img --stores",
-    "run a.img --Store",
-    "run a.img --moves 5",
-    "run a.img --steps5",
-    "run a.img --steps:5",
-    "run a.img ---steps 5",
-    "run a.img -steps 5",
-    "run a.img --=5",
-    "run a.img --unknown",
-    // short options, help and version
-    "-h",
-    "--help",
-    "help",
-    "run -h",
-    "run --help",
-    "run a.img -h",
-    "run a.img --help",
-    "run a.img --version",
-    "run a.img -V",
-    "run a.img -s",
-    "run a.img -5",
-    // words after `--`
-    "run a.img -- --store",
-    "run a.img -- --steps 5",
-    "run -- a.img --steps=5",
-    // numbers by their spelling and range
-    "run --steps=007 a.img",
-    "run a.img --steps=00",
-    "run a.img --steps=+5",
-    "run a.img --steps=-5",
-    "run a.img --steps=0x5",
-    "run a.img --steps=5_0",
-    "run a.img --steps=٣",
-    "run a.img --steps=1000000001",
-    "run a.img --steps=18446744073709551616",
-    "run a.img --ram=15",
-    "run a.img --ram 4097",
-    "run a.img --ram=-",
-    "run a.img --harts 0",
-    "run a.img --harts 5",
-    "run a.img --move=1000000001",
-    // M@K
-    "run a.img --blind 0@5",
-    "run a.img --blind 65536@5",
-    "run a.img --blind 1@1000000001",
-    "run a.img --blind 1",
-    "run a.img --blind 1@",
-    "run a.img --blind @1",
-    "run a.img --blind 1@2@3",
-    "run a.img --blind 01@2",
-    "run a.img --blind 1@+2",
-    // gen
-    "gen",
-    "gen 5 6",
-    "gen -1",
-    "gen -- -1",
-    "gen 01",
-    "gen 18446744073709551616",
-    "gen 5 --steps 5",
-    "gen 5 --store",
-];
-
-static NO_TEXTS: [&[u8]; 5] = [b"\xff", b"a\x80", b"\xc3", b"\xc0\x80", b"\xed\xa0\x80"];
-
-fn words_of(alloc: Global, text: &str) -> Result<Vec<Vec<u8>>, AllocError> {
-    let mut words: Vec<Vec<u8>> = Vec::new(alloc);
-    for word in text.split(' ') {
-        add_word(alloc, &mut words, &[], word.as_bytes())?;
-    }
-    Ok(words)
+/// The bytes of instructions.
+fn bytes_of_code(alloc: Global, code: &[u32]) -> Result<Vec<u8>, AllocError> {
+    let mut bytes = Vec::new(alloc);
+    push_code(&mut bytes, code)?;
+    Ok(bytes)
 }
 
-// Adds a word of two parts.
-fn add_word(
+fn push_code(image: &mut Vec<u8>, code: &[u32]) -> Result<(), AllocError> {
+    for word in code {
+        image.extend_from_slice(&word.to_le_bytes())?;
+    }
+    Ok(())
+}
+
+/// Appends zeros up to the byte offset, and there the numbers.
+fn push_numbers(image: &mut Vec<u8>, offset: usize, numbers: &[u64]) -> Result<(), AllocError> {
+    image.resize(offset, 0)?;
+    for number in numbers {
+        image.extend_from_slice(&number.to_le_bytes())?;
+    }
+    Ok(())
+}
+
+/// Appends numbers at ascending byte offsets, and zeros between them.
+fn push_pairs(image: &mut Vec<u8>, pairs: &[(usize, u64)]) -> Result<(), AllocError> {
+    for (offset, number) in pairs {
+        push_numbers(image, *offset, &[*number])?;
+    }
+    Ok(())
+}
+
+fn text(alloc: Global, lines: &[&str]) -> Result<String, AllocError> {
+    let mut text = String::new(alloc);
+    for line in lines {
+        text.push_str(line)?;
+    }
+    Ok(text)
+}
+
+fn words_of(alloc: Global, words: &[&str]) -> Result<Vec<Vec<u8>>, AllocError> {
+    let mut list = Vec::new(alloc);
+    for word in words {
+        list.push(Vec::from_slice(alloc, word.as_bytes())?)?;
+    }
+    Ok(list)
+}
+
+/// A desk that has these files.
+fn desk_of(alloc: Global, files: &[(&str, &[u8])], fails: &[u64]) -> Result<MemDesk, AllocError> {
+    let mut list = Vec::new(alloc);
+    for (name, bytes) in files {
+        list.push((
+            String::from_str(alloc, name)?,
+            Vec::from_slice(alloc, *bytes)?,
+        ))?;
+    }
+    Ok(MemDesk::of(list, Vec::from_slice(alloc, fails)?))
+}
+
+/// Calls with the words where there are these files, and answers the status where the text is this.
+fn call(
+    rt: &impl Abort,
     alloc: Global,
-    words: &mut Vec<Vec<u8>>,
-    first: &[u8],
-    second: &[u8],
-) -> Result<(), AllocError> {
-    let mut word = Vec::new(alloc);
-    word.extend_from_slice(first)?;
-    word.extend_from_slice(second)?;
-    words.push(word)?;
-    Ok(())
+    words: &[&str],
+    files: &[(&str, &[u8])],
+    pieces: &[&str],
+) -> Status {
+    let list = words_of(alloc, words).expect(rt, "memory");
+    call_words(rt, alloc, &list, files, pieces)
 }
 
-fn is_run(run: &RunOrder, wanted: &RunOrderRef<'_>) -> bool {
-    let script = match &run.script {
-        Some(script) => Some(script.as_str()),
-        None => None,
-    };
-    run.image.as_str() == wanted.image
-        && run.ram_pages == wanted.ram_pages
-        && run.harts == wanted.harts
-        && run.steps == wanted.steps
-        && script == wanted.script
-        && run.store == wanted.store
-        && run.blind == wanted.blind
-        && run.moves == wanted.moves
+/// The same with words in bytes.
+fn call_words(
+    rt: &impl Abort,
+    alloc: Global,
+    words: &[Vec<u8>],
+    files: &[(&str, &[u8])],
+    pieces: &[&str],
+) -> Status {
+    let mut desk = desk_of(alloc, files, &[]).expect(rt, "memory");
+    let mut out = MemSink::of(alloc, 16_384, Vec::new(alloc)).expect(rt, "memory");
+    let status = bastion(alloc, words, &mut desk, &mut out);
+    let expected = text(alloc, pieces).expect(rt, "memory");
+    assert_eq!(rt; out.bytes(), expected.as_bytes(), "of {words:?}");
+    status
 }
 
-#[test]
-fn runs_are_ordered(rt: HostRuntime) -> Result<(), Fail> {
-    for (text, wanted) in &RUNS {
-        let words = words_of(rt.alloc(), text)?;
-        match read_words(rt.alloc(), words.as_slice()) {
-            Ok(Order::Run(run)) => assert!(rt; is_run(&run, wanted), "{text}"),
-            _ => assert!(rt; false, "{text}"),
-        }
-    }
-    Ok(())
+/// Runs an image for at most so many events, and answers the status where its trace is these lines.
+/// The last of them has the number of events and SHA-256 of RAM at the end.
+fn run_image(
+    rt: &impl Abort,
+    alloc: Global,
+    ram_pages: u32,
+    steps: u64,
+    image: &[u8],
+    lines: &[&str],
+) -> Status {
+    let ram = format!(in alloc; "{ram_pages}").expect(rt, "memory");
+    let most = format!(in alloc; "{steps}").expect(rt, "memory");
+    let words = ["run", "guest", "--ram", &ram, "--steps", &most];
+    call(rt, alloc, &words, &[("guest", image)], lines)
 }
 
-#[test]
-fn numbers_are_ordered(rt: HostRuntime) -> Result<(), Fail> {
-    for (text, wanted) in &NUMBERS {
-        let words = words_of(rt.alloc(), text)?;
-        match read_words(rt.alloc(), words.as_slice()) {
-            Ok(Order::Gen(number)) => assert_eq!(rt; number, *wanted, "{text}"),
-            _ => assert!(rt; false, "{text}"),
-        }
-    }
-    Ok(())
+/// The image shuts down in a RAM of so many pages with this trace.
+fn expect_image(rt: &impl Abort, alloc: Global, ram_pages: u32, image: &[u8], lines: &[&str]) {
+    let status = run_image(rt, alloc, ram_pages, 100_000, image, lines);
+    assert_eq!(rt; status, Status::Ended);
 }
 
-#[test]
-fn other_words_are_refused(rt: HostRuntime) -> Result<(), Fail> {
-    assert!(rt; is_refused(rt.alloc(), &[]));
-    for text in &REFUSED {
-        let words = words_of(rt.alloc(), text)?;
-        assert!(rt; is_refused(rt.alloc(), words.as_slice()), "{text}");
-    }
-    Ok(())
-}
-
-fn is_refused(alloc: Global, words: &[Vec<u8>]) -> bool {
-    matches!(read_words(alloc, words), Err(WordsError::Words))
+/// So does the image that is this code.
+fn expect_code(rt: &impl Abort, alloc: Global, ram_pages: u32, code: &[u32], lines: &[&str]) {
+    let image = bytes_of_code(alloc, code).expect(rt, "memory");
+    expect_image(rt, alloc, ram_pages, &image, lines);
 }
 
 #[test]
-fn words_that_are_no_texts_are_refused(rt: HostRuntime) -> Result<(), Fail> {
-    for bytes in &NO_TEXTS {
-        let mut image = words_of(rt.alloc(), "run")?;
-        add_word(rt.alloc(), &mut image, &[], bytes)?;
-        assert!(rt; is_refused(rt.alloc(), image.as_slice()));
-        let mut script = words_of(rt.alloc(), "run a.img")?;
-        add_word(rt.alloc(), &mut script, b"--script=", bytes)?;
-        assert!(rt; is_refused(rt.alloc(), script.as_slice()));
-        let mut value = words_of(rt.alloc(), "run a.img --script")?;
-        add_word(rt.alloc(), &mut value, &[], bytes)?;
-        assert!(rt; is_refused(rt.alloc(), value.as_slice()));
-    }
-    Ok(())
+fn every_instruction_as_another_machine_does_it(rt: HostRuntime) {
+    let mut image = bytes_of_code(rt.alloc(), &walk::CODE).expect(&rt, "memory");
+    let end = image.len();
+    push_numbers(&mut image, end, &walk::OPERANDS).expect(&rt, "memory");
+    expect_image(&rt, rt.alloc(), 1024, &image, &walk::LINES);
+}
+
+#[test]
+fn user_mode_may_not(rt: HostRuntime) {
+    expect_code(&rt, rt.alloc(), 16, &user::CODE, &user::LINES);
 }

@@ -3,7 +3,6 @@ ghost use Rattle.std.specs.Prelude.{◌≡◌, ◌≤◌, IfSome, None, Some, fa
 ghost use Rattle.bn_types.specs.Splitting.{split_by};
 ghost use Rattle.bn_model.specs.CommandLines as flat;
 ghost use Rattle.bn_model.specs.Scripts as scripts;
-ghost use Rattle.bn_model.specs.Words as words;
 ghost use Rattle.bn_front.specs.Items.{item_meant, items_meant, lone, name_meant, text_if, text_in};
 ghost use Rattle.bn_front.specs.Items.{texts_of};
 ghost use Rattle.bn_front.specs.Meant.{CanBlind, blind_meant};
@@ -50,7 +49,7 @@ pub fn number_given(
 ) -> Option<u64>
     requires least { least ≤ absent }
     requires most { absent ≤ most }
-    ensures exact { result ≡ flat.at_most_one absent (words.number_between least most)
+    ensures exact { result ≡ flat.at_most_one absent (flat.number_between least most)
         (flat.values_of (name_meant option) (items_meant items.now)) }
     ensures range { IfSome result (λ n. (least ≤ n) × (n ≤ most)) }
 {

@@ -8,10 +8,9 @@ use Rattle.std.proofs.lemmas.List.{get_or-replicate, get_or-append_right}
 use Rattle.std.proofs.lemmas.List.{replicate-append-replicate}
 use Rattle.std.proofs.lemmas.Bool.{cases_eq}
 use Rattle.std.proofs.lemmas.List.FromFn.{length-map-range_with_len, get_or-map-range_with_len}
-use Rattle.bn_types.specs.Numbers.{AreWhole, with_number, zero_page}
+use Rattle.bn_types.specs.Numbers.{with_number, zero_page}
 use Rattle.bn_types.specs.declared.width.Width.TheVariants.{B1}
 use Rattle.bn_model.proofs.MixedLists.{mixed, mixed_all, set-mixed}
-use Rattle.bn_model.proofs.PageNumbers.{length-zero_page}
 use Rattle.bn_model.specs.Opening.{opening_harts, page_of, pages_of}
 use Rattle.bn_model.specs.Nesting.{Nested, contents, place}
 use Rattle.bn_model.specs.State.{resting_hart}
@@ -90,11 +89,6 @@ page_filled frames g bytes page h e =
     (e ∙ sym (get_or-pages_of (length frames) bytes g h))
     ∙ set-mixed g (pages_of (length frames) bytes) frames [] (omega arith) size
 
-pub whole_zeros : (count : ℕ) → AreWhole (replicate count zero_page)
-whole_zeros count g inside =
-    let below : g < count = subst (λ n. g < n) (length-replicate count zero_page) inside in
-    ap length (get_or-replicate count g zero_page [] below) ∙ length-zero_page
-
 -- one more hart that rests
 pub opening_harts_more : (count entry : ℕ) → 0 < count
     → opening_harts count entry ++ resting_hart ∷ [] ≡ opening_harts (count + 1) entry
@@ -110,13 +104,6 @@ page_inside frames g bytes h =
     let size = length-pages_of (length frames) bytes in
     let all = length-mixed g (pages_of (length frames) bytes) frames (omega arith) size in
     omega arith
-
-pub page_whole : (frames : List (List ℕ)) (g : ℕ) (bytes : List ℕ) → AreWhole frames
-    → g < length frames
-    → length (get_or (mixed g (pages_of (length frames) bytes) frames) g []) ≡ 4096
-page_whole frames g bytes whole h =
-    let size = length-pages_of (length frames) bytes in
-    ap length (get_or-mixed g (pages_of (length frames) bytes) frames [] (omega arith)) ∙ whole g h
 
 -- all pages are filled
 pub all_filled : (frames : List (List ℕ)) (g : ℕ) (bytes : List ℕ) → g ≡ length frames
@@ -195,3 +182,15 @@ filled_more start old placed new page frame chunk bytes below e f p b = record {
       absurd (cc)
   go q h (inr other) none =
       f.placed q (omega arith) (sym (p.others q other) ∙ sym (b.places q) ∙ none)
+
+-- it is still zeros
+pub page_zeros : (frames : List (List ℕ)) (ram g : ℕ) (bytes : List ℕ)
+    → frames ≡ replicate ram zero_page → g < length frames
+    → get_or (mixed g (pages_of (length frames) bytes) frames) g [] ≡ zero_page
+page_zeros frames ram g bytes zeros h =
+    let size = length-pages_of (length frames) bytes in
+    let below : g < ram =
+    subst (λ n. g < n) (ap length zeros ∙ length-replicate ram zero_page) h in
+    get_or-mixed g (pages_of (length frames) bytes) frames [] (omega arith)
+    ∙ ap (λ (pages : List (List ℕ)). get_or pages g []) zeros
+    ∙ get_or-replicate ram g zero_page [] below

@@ -3,11 +3,8 @@ use Rattle.std.proofs.Common.{◌≡◌, ℕ, false, List, [], Option, Some, Non
 use Rattle.bn_types.specs.declared.digest.Digest.{Digest}
 use Rattle.bn_types.specs.declared.record.Record.{Record}
 use Rattle.bn_types.specs.declared.reg.Reg.{Reg}
-use Rattle.bn_types.specs.declared.row.Row.{Row}
-use Rattle.bn_types.specs.declared.row_state.RowState.{RowState}
-use Rattle.bn_types.specs.declared.row_state.RowState.TheVariants.{Idle, Running, Waiting, Stopped}
 use Rattle.bn_types.specs.declared.set_refused.SetRefused.{SetRefused}
-use Rattle.bn_model.specs.Deciding.{decision_by_state, decision_of_evict, decision_of_set}
+use Rattle.bn_model.specs.Deciding.{decision_of_set}
 use Rattle.bn_model.specs.Records.{get_word, words_of}
 use Rattle.bn_machine.specs.Built.{is_built_turn}
 

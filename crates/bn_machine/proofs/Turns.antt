@@ -3,7 +3,8 @@ use Rattle.std.proofs.Common.{◌≡◌, ℕ, zero, suc, ◌+◌, ◌<◌, ◌�
 use Rattle.std.proofs.Common.{None, Result, Ok, Err, sym, ap, subst, arith}
 use Rattle.bn_types.specs.declared.act.Act.{Act}
 use Rattle.bn_types.specs.declared.act.Act.TheVariants as act
-use Rattle.bn_types.specs.declared.event.Event.TheVariants.{Turn}
+use Rattle.bn_types.specs.declared.event.Event.{Event}
+use Rattle.bn_types.specs.declared.event.Event.TheVariants.{Poke, Turn}
 use Rattle.bn_types.specs.declared.mod_id.ModId.{ModId}
 use Rattle.bn_types.specs.declared.fault.Fault.{Fault}
 use Rattle.bn_types.specs.declared.gpn.Gpn.{Gpn}
@@ -17,13 +18,13 @@ use Rattle.bn_model.specs.Decision.{Acting}
 use Rattle.bn_model.specs.Decoding.{insn_of}
 use Rattle.bn_model.specs.Soundness.{IsSound}
 use Rattle.bn_model.specs.State.{State, asker, hart_at, memory}
-use Rattle.bn_model.specs.Stepping.{step}
+use Rattle.bn_model.specs.Stepping.{Fits, step}
 use Rattle.bn_model.specs.Switching.{stopped_at}
 use Rattle.bn_model.specs.Walking.{vpn_of}
 use Rattle.bn_model.proofs.SoundKept.{sound-kept}
 use Rattle.bn_machine.specs.declared.unbuilt.Unbuilt.{Unbuilt}
 use Rattle.bn_machine.specs.Costs.{CountsAct, CountsAsked}
-use Rattle.bn_machine.specs.Making.{MakesAsked, MakesTurn}
+use Rattle.bn_machine.specs.Making.{MakesAsked, MakesTurn, after_write}
 
 -- the answer of hart h's fetch
 abbrev pub fetched : State → ℕ → Result ℕ Fault
@@ -127,3 +128,32 @@ counted-unfetched s h fault old mid e fetch =
         → CountsAsked (asked_of_fault current s.rows (hart_at s h) fault) 30 old mid
     by_current zero = by_page fault.denied
     by_current (suc m) = omega arith
+
+-- so does an event of a device
+pub sound_event : (s new : State) (event : Event) → Fits s event → IsSound s → new ≡ step s event
+    → IsSound new
+sound_event s new event fits sound is = subst IsSound (sym is) (sound-kept s event fits sound)
+
+-- and so does what a device writes without an event
+pub sound_write : (s : State) (page : Gpn) (offset byte : ℕ) → offset < 4096 → IsSound s
+    → IsSound (after_write s page offset byte)
+unfolding step
+sound_write s page offset byte fits sound =
+    let told = sound-kept s (Poke page offset byte) fits sound in record {
+      ids = sound.ids;
+      claims = told.claims;
+      acceptances = sound.acceptances;
+      states = sound.states;
+      asleep = sound.asleep;
+      modes = sound.modes;
+      rows = sound.rows;
+      harts = sound.harts;
+      some_harts = sound.some_harts;
+      few_harts = sound.few_harts;
+      some_pages = told.some_pages;
+      few_pages = told.few_pages;
+      pages = told.pages;
+      few_keys = sound.few_keys;
+      keys = sound.keys;
+      records = sound.records;
+    }

@@ -1,7 +1,7 @@
 -- The pages of a module that are zeroed, one declaration after another.
-use Rattle.std.proofs.Common.{◌≡◌, ℕ, ◌+◌, ◌<◌, ◌==◌, ◌&&◌, ◌||◌, Bool, true, false, List, [], ◌∷◌}
-use Rattle.std.proofs.Common.{◌++◌, length, set, Option, Some, None, not, inl, inr, is_some, refl, sym}
-use Rattle.std.proofs.Common.{ap, ap₂, subst, ◌∙◌, arith, eq-eqb, ne_eqb}
+use Rattle.std.proofs.Common.{◌≡◌, ℕ, ◌<◌, ◌==◌, ◌&&◌, ◌||◌, Bool, true, false, List, [], ◌∷◌}
+use Rattle.std.proofs.Common.{◌++◌, length, Some, None, not, inl, inr, is_some, refl, sym}
+use Rattle.std.proofs.Common.{ap, ap₂, subst, ◌∙◌, eq-eqb, ne_eqb}
 use Rattle.std.proofs.lemmas.List.Elements.{All-cons, All-nil}
 use Rattle.std.proofs.lemmas.List.Folds.{list_any-append}
 use Rattle.std.specs.List.{All, list_any}
@@ -9,14 +9,13 @@ use Rattle.bn_types.specs.Numbers.{zero_page}
 use Rattle.bn_types.specs.declared.decl.Decl.{Decl}
 use Rattle.bn_types.specs.declared.row.Row.{Row}
 use Rattle.bn_model.specs.declared.owner.Owner.{Owner}
-use Rattle.bn_model.specs.Blanking.{blank, blank_if, blank_page, blank_pages, blank_row, blanked}
+use Rattle.bn_model.specs.Blanking.{blank, blank_if, blank_page, blank_pages, blank_row}
 use Rattle.bn_model.specs.Blanking.{rests, runs}
-use Rattle.bn_model.specs.Each.{each}
 use Rattle.bn_model.specs.Evicting.{zeros_if}
 use Rattle.bn_model.specs.Owners.{claim_by, claims, claims_by, is_live, is_on, is_owned, is_private}
-use Rattle.bn_model.specs.Owners.{is_private_at, is_private_page}
+use Rattle.bn_model.specs.Owners.{is_private_at}
 use Rattle.bn_model.specs.Rows.{enclaves, has_id, owner_of, owners, row_of, with_row}
-use Rattle.bn_model.specs.Soundness.{AreOrdered, Ascend, EachOrdered, GuestPagesDiffer, Has, IsSound}
+use Rattle.bn_model.specs.Soundness.{AreOrdered, Ascend, EachOrdered, GuestPagesDiffer, Has}
 use Rattle.bn_model.specs.State.{State}
 use Rattle.bn_model.proofs.BlankLemmas.{blank-dead, blank-rests}
 use Rattle.bn_model.proofs.EachLemmas.{each-kept, each-more, each-same}

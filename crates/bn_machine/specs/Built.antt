@@ -1,5 +1,5 @@
--- What the code can do already, and what the program does as far as it is built.
-use Rattle.std.specs.Prelude.{ℕ, Bool, true, false, List}
+-- What the code can do already.
+use Rattle.std.specs.Prelude.{Bool, true, false}
 use Rattle.bn_types.specs.declared.event.Event.{Event}
 use Rattle.bn_types.specs.declared.event.Event.TheVariants.{Turn}
 use Rattle.bn_types.specs.declared.request.Request.{Request}
@@ -7,10 +7,8 @@ use Rattle.bn_types.specs.declared.request.Request.TheVariants as request
 use Rattle.bn_model.specs.Deciding.{decision_of}
 use Rattle.bn_model.specs.Decision.{Decision, Rest, Trap, Deny, Next, Set, Jump, Store, Csr}
 use Rattle.bn_model.specs.Decision.{ReturnFromTrap, Put, Answer, ShutDown, Refuse, Launch}
-use Rattle.bn_model.specs.Decision.{SetTimer, TakeKey, NoKey, Send, Call, Return, Resume, Evict}
-use Rattle.bn_model.specs.Decision.{Tell}
-use Rattle.bn_model.specs.Reporting as flat
-use Rattle.bn_model.specs.Reporting.{Files, Report}
+use Rattle.bn_model.specs.Decision.{SetTimer, TakeKey, NoKey, Start, Send, Call, Return, Resume}
+use Rattle.bn_model.specs.Decision.{Evict, Tell}
 use Rattle.bn_model.specs.State.{State}
 
 -- a request that is refused
@@ -39,6 +37,7 @@ is_built_turn (Launch rd judged) = true
 is_built_turn (SetTimer timer) = true
 is_built_turn (TakeKey key rest) = true
 is_built_turn NoKey = true
+is_built_turn (Start target pc opaque) = true
 is_built_turn (Send mask) = true
 is_built_turn (Call rd callee entry) = true
 is_built_turn (Return caller pc) = true
@@ -47,11 +46,7 @@ is_built_turn (Evict rd id count) = true
 is_built_turn (Tell rd value) = true
 is_built_turn decision = false
 
--- of the events only turns are built
+-- all other events are built
 unfoldable pub is_built_event : State → Event → Bool
 is_built_event s (Turn h) = is_built_turn (decision_of s h)
-is_built_event s event = false
-
--- the status and the text of a call with these words
-abbrev pub report_of : List (List ℕ) → Files → Report
-report_of words files = flat.report_of is_built_event words files
+is_built_event s event = true

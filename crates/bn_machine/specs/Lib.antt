@@ -2,12 +2,8 @@ pub mod Acts
 pub mod Built
 pub mod Costs
 pub mod Harts
-pub mod Headline
 pub mod Loads
 pub mod Making
-pub mod Orders
-pub mod Runs
 pub mod Standing
-pub mod Story
 pub mod Telling
 pub mod Zeroing

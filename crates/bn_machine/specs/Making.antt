@@ -1,6 +1,9 @@
 -- What a turn's methods come to: the decision is made, or it isn't built and nothing changes.
 use Rattle.std.specs.Prelude.{◌≡◌, ℕ, suc, ◌<◌, ℤ, true, false, List, [], Result, Ok, Err}
 use Rattle.bn_types.specs.declared.act.Act.{Act}
+use Rattle.bn_types.specs.declared.event.Event.{Event}
+use Rattle.bn_types.specs.declared.event.Event.TheVariants.{Turn}
+use Rattle.bn_types.specs.declared.gpn.Gpn.{Gpn}
 use Rattle.bn_types.specs.declared.reg.Reg.{Reg}
 use Rattle.bn_types.specs.declared.request.Request.TheVariants as request
 use Rattle.bn_model.specs.Deciding.{decision_of, decision_of_act, decision_of_asked}
@@ -9,7 +12,8 @@ use Rattle.bn_model.specs.Refusals.{minus}
 use Rattle.bn_model.specs.Spelling.{text_of}
 use Rattle.bn_model.specs.Rows.{with_row}
 use Rattle.bn_model.specs.State.{State, frame_of, hart_after_stop, hart_at, one_more, with_hart}
-use Rattle.bn_model.specs.Stepping.{after_tick, after_turn, lines_of_turn}
+use Rattle.bn_model.specs.Stepping.{after_tick, after_turn, lines_of_turn, pages_after_poke}
+use Rattle.bn_model.specs.Stepping.{seen_page}
 use Rattle.bn_model.specs.Switching.{row_after_stop}
 use Rattle.bn_table.specs.Evictions.{evict_code}
 use Rattle.bn_table.specs.declared.evict_refused.EvictRefused.{EvictRefused}
@@ -78,3 +82,13 @@ pub record IsRefusalCode (code : ℤ) : Type 0 where
 abbrev pub decision_by_refusal : Reg → (id count : ℕ) → Result ℕ EvictRefused → Decision
 decision_by_refusal rd id count (Ok number) = Evict rd id count
 decision_by_refusal rd id count (Err refusal) = Refuse rd request.Evict (evict_code refusal)
+
+-- an event of a device, and of no hart
+abbrev pub IsOfDevice : Event → Type 0
+IsOfDevice (Turn h) = ⊥
+IsOfDevice event = Unit {0}
+
+-- the state after a device wrote a byte where it reaches one, but for the clock
+abbrev pub after_write : State → Gpn → (offset byte : ℕ) → State
+after_write s page offset byte =
+    record s { pages = pages_after_poke (seen_page s page) s.pages page.0 offset byte }

@@ -6,6 +6,8 @@ use Rattle.bn_types.specs.declared.judged.Judged.{Judged}
 use Rattle.bn_types.specs.declared.mod_id.ModId.{ModId}
 use Rattle.bn_types.specs.declared.row.Row.{Row}
 use Rattle.bn_types.specs.declared.row_state.RowState.TheVariants.{Stopped}
+use Rattle.bn_types.specs.declared.sbi_ask.SbiAsk.{SbiAsk}
+use Rattle.bn_types.specs.declared.sbi_ask.SbiAsk.TheVariants as ask
 use Rattle.bn_model.specs.Nesting.{IsNested}
 use Rattle.bn_model.specs.Rows.{owners}
 use Rattle.bn_model.specs.Standing.{Parts, state_of}
@@ -37,3 +39,13 @@ pub record HasRoomFor (s : State) (judged : Judged) : Type 0 where
 pub record MayResume (s : State) (h : ℕ) (id : ModId) : Type 0 where
   pub outside : (hart_at s h).current ≡ untrusted
   pub stopped : state_at s.rows id.0 ≡ Some Stopped
+
+-- there is a hart of this number, and it runs the untrusted world
+pub record MayStart (s : State) (target : ℕ) : Type 0 where
+  pub within : target < length s.harts
+  pub outside : (hart_at s target).current ≡ untrusted
+
+-- what a call to the hypervisor asks for starts such a hart alone
+abbrev pub MayBeAsked : State → SbiAsk → Type 0
+MayBeAsked s (ask.Start target pc opaque) = MayStart s target
+MayBeAsked s asked = Unit {0}

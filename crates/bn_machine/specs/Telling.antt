@@ -1,10 +1,11 @@
 -- What a run tells a sink.
-use Rattle.std.specs.Prelude.{◌≡◌, ℕ, List, Option}
+use Rattle.std.specs.Prelude.{◌≡◌, ℕ, ◌≤◌, List, Option}
 use Rattle.bn_edge.specs.Accounts.{SinkAccount}
 use Rattle.bn_edge.specs.Written.{Writes}
 use Rattle.bn_types.specs.declared.ending.Ending.{Ending}
 use Rattle.bn_types.specs.declared.event.Event.{Event}
 use Rattle.bn_model.specs.Running.{Blind, Course, StopsWithin}
+use Rattle.bn_model.specs.Scripts.{Script, after_events}
 use Rattle.bn_model.specs.Spelling.{text_of}
 use Rattle.bn_model.specs.State.{State}
 
@@ -22,3 +23,9 @@ pub record StopsRun (blind : Option Blind) (start stopped : State) (events : Lis
     pub text : List ℕ
     pub stops : StopsWithin blind start stopped events text
     pub written : Writes old new text
+
+-- a script as it is left by a run of at most so many events
+pub record IsLeftOf (limit : ℕ) (all script : Script) : Type 0 where
+  pub count : ℕ
+  pub most : count ≤ limit
+  pub is : script ≡ after_events count all

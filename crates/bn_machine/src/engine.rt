@@ -5,6 +5,7 @@ ghost use Rattle.bn_model.specs.State.{hart_at, memory};
 ghost use Rattle.bn_unit.specs.Memory.{memory_of};
 
 use crate::hart::Hart;
+use arrayvec::ArrayVec;
 use bn_table::Table;
 use bn_types::ModId;
 use bn_unit::Unit;
@@ -13,6 +14,7 @@ use std::marker::Model;
 mod blanking;
 mod calling;
 mod carrying;
+mod devices;
 mod evicting;
 mod launching;
 mod making;
@@ -22,13 +24,15 @@ mod secure;
 mod switching;
 mod turning;
 
-/// The parts of a machine: memory, live modules, harts and the clock, and how turns are made over
-/// them.
+/// The parts of a machine: memory, live modules, harts, keys and the clock, and how events are made
+/// over them.
 #[derive(Drop)]
 pub(crate) struct Engine {
     unit: Unit,
     table: Table,
     harts: Vec<Hart>,
+    /// The keys that wait, the oldest one first.
+    keys: ArrayVec<u8, 256>,
     clock: u64,
     off: bool,
 }
@@ -44,7 +48,7 @@ impl Model for Engine {
       harts = e.harts.items;
       rows = e.table.rows;
       records = [];
-      keys = [];
+      keys = e.keys.items;
       next = e.table.next;
       clock = e.clock;
       off = e.off;
@@ -77,6 +81,7 @@ impl Engine {
             unit,
             table: Table::empty(),
             harts,
+            keys: ArrayVec::new(),
             clock: 0,
             off: false,
         }

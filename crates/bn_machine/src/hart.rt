@@ -89,6 +89,24 @@ impl Hart {
         }
     }
 
+    /// Starts it, where it runs no module, in mode S at the pc, with its number and an opaque value
+    /// in a0 and a1, and all else as at reset (SBI, "HART start").
+    pub fn start(&mut self, number: u8, pc: u64, opaque: u64)
+        requires outside { self.old.current ≡ flat.untrusted }
+        ensures { self.new ≡ flat.started_hart number pc opaque }
+    {
+        let mut regs = Regs::zero();
+        set_register(&mut regs, A0, u64::from(number));
+        set_register(&mut regs, A1, opaque);
+        self.regs = regs;
+        self.pc = pc;
+        self.mode = Mode::S;
+        self.csrs = Csrs::reset();
+        self.timer = NEVER;
+        self.retired = 0;
+        self.started = true;
+    }
+
     /// A hart that isn't started.
     pub fn resting() -> Hart
         ensures { result ≡ flat.resting_hart }

@@ -5,6 +5,7 @@ use std::marker::Model;
 
 mod blanking;
 mod booting;
+mod devices;
 mod digesting;
 mod running;
 mod turning;

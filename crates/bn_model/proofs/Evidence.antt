@@ -238,7 +238,7 @@ module _ (s : State) (h : ℕ) (hart : Hart) where
   get-holds [] e = tt
   get-holds (key ∷ keys) e = e
 
-  AskHolds : SbiAsk → Type 0
+  unfoldable pub AskHolds : SbiAsk → Type 0
   AskHolds (ask.Start target pc opaque) = StartsHart s hart target pc opaque
   AskHolds asked = Unit {0}
 
@@ -304,7 +304,7 @@ module _ (s : State) (h : ℕ) (hart : Hart) where
       (slice_index hart.regs.x 10) (slice_index hart.regs.x 11)
   asked-call out NoCall = tt
 
-  asked-holds : hart.current.0 ≡ zero
+  pub asked-holds : hart.current.0 ≡ zero
       → AskHolds (ask_of hart.regs (length s.harts) (map is_started s.harts))
   unfolding ask_of
   asked-holds out = asked-call out

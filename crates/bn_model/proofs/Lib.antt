@@ -44,6 +44,7 @@ pub mod RestingLemmas
 pub mod RowLemmas
 pub mod RowsKept
 pub mod RunningLemmas
+pub mod ScriptLemmas
 pub mod SegmentFacts
 pub mod SegmentSpellings
 pub mod SegmentTexts

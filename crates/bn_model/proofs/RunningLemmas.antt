@@ -1,13 +1,12 @@
 -- Laws of runs.
-use Rattle.std.proofs.Common.{◌≡◌, ℕ, suc, zero, ◌+◌, ◌-◌, ◌<◌, Bool, true, false, List, [], ◌∷◌}
-use Rattle.std.proofs.Common.{◌++◌, Option, refl, ap, ◌∙◌, sym, arith}
+use Rattle.std.proofs.Common.{◌≡◌, Bool, true, false, List, [], ◌∷◌, ◌++◌, Option, refl, ap, ◌∙◌}
+use Rattle.std.proofs.Common.{sym}
 use Rattle.std.proofs.lemmas.List.{append_assoc}
 use Rattle.bn_types.specs.declared.ending.Ending.TheVariants.{Shutdown, Limit, Unbuilt}
 use Rattle.bn_types.specs.declared.event.Event.{Event}
-use Rattle.bn_types.specs.declared.event.Event.TheVariants.{Turn}
 use Rattle.bn_types.specs.declared.line.Line.{Line}
 use Rattle.bn_model.specs.Running.{Blind, Built, Course, Run, course, onward, run, state_before}
-use Rattle.bn_model.specs.Running.{turns, unless_off}
+use Rattle.bn_model.specs.Running.{unless_off}
 use Rattle.bn_model.specs.State.{State}
 use Rattle.bn_model.specs.Stepping.{step, lines}
 
@@ -77,21 +76,3 @@ run-append blind s (e ∷ es) fs =
     ∙ ap (λ (told : List Line).
     record { told = told; last = (run blind (run blind (step before e) es).last fs).last })
     (sym (append_assoc (lines before e) (run blind (step before e) es).told _))
-
--- ---- turns of hart 0
-
-turns-plus : (m k : ℕ) → turns (m + suc k) ≡ turns m ++ Turn 0 ∷ turns k
-unfolding turns
-turns-plus zero k = let e : zero + suc k ≡ suc k = omega arith in ap turns e
-turns-plus (suc m) k =
-    let e : suc m + suc k ≡ suc (m + suc k) = omega arith in
-    ap turns e ∙ ap (λ (es : List Event). Turn 0 ∷ es) (turns-plus m k)
-
-pub turns-more : (n : ℕ) → turns (n + 1) ≡ turns n ++ Turn 0 ∷ []
-unfolding turns
-turns-more n = turns-plus n zero
-
-pub turns-split : (made limit : ℕ) → made < limit
-    → turns limit ≡ turns made ++ Turn 0 ∷ turns (limit - (made + 1))
-turns-split made limit below = let split : limit ≡ made + suc (limit - (made + 1)) = omega arith in
-    ap turns split ∙ turns-plus made (limit - (made + 1))

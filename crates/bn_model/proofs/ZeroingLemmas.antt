@@ -1,6 +1,6 @@
 -- Runs from the state without the secrets of a resting module.
 use Rattle.std.proofs.Common.{◌≡◌, ℕ, zero, suc, ◌<◌, ◌==◌, ◌&&◌, ◌||◌, Bool, true, false, not}
-use Rattle.std.proofs.Common.{List, [], ◌∷◌, ◌++◌, length, map, set, Option, refl, sym, ap}
+use Rattle.std.proofs.Common.{List, [], ◌∷◌, ◌++◌, map, set, Option, refl, sym, ap}
 use Rattle.std.proofs.Common.{ap₂, subst, ◌∙◌, arith, ne_eqb}
 use Rattle.std.proofs.lemmas.List.{map-append}
 use Rattle.std.proofs.lemmas.List.Folds.{list_any-append}
@@ -22,7 +22,7 @@ use Rattle.bn_model.specs.Decision.{Decision, Trap, Deny, Launch, Call, Return, 
 use Rattle.bn_model.specs.Evicting.{evicted_rows, is_among, rows_left}
 use Rattle.bn_model.specs.Owners.{is_live, is_module, is_private_page}
 use Rattle.bn_model.specs.Rows.{new_row, owner_of, owners, row_of, saved_of, with_row}
-use Rattle.bn_model.specs.Running.{Blind, Run, run, state_before, turns}
+use Rattle.bn_model.specs.Running.{Blind, Run, run, state_before}
 use Rattle.bn_model.specs.SoundnessLaws.{KeepsSound}
 use Rattle.bn_model.specs.Soundness.{IsSound}
 use Rattle.bn_model.specs.State.{Hart, State, frame_of, hart_after_resume, hart_after_return}
@@ -39,7 +39,6 @@ use Rattle.bn_model.proofs.BlankSteps.{call-owners, rests-apart, return-owners}
 use Rattle.bn_model.proofs.ClaimLemmas.{live-left}
 use Rattle.bn_model.proofs.IdLemmas.{live-between}
 use Rattle.bn_model.proofs.RowLemmas.{owners-with_row}
-use Rattle.bn_model.proofs.SteppingLemmas.{harts_after}
 
 -- an event's lines before those of the others
 abbrev onward : List Line → Run → Run
@@ -413,16 +412,3 @@ hides-in-run keeps blind start all sound fit = (
       (fit-split blind start events others (subst (AllFit blind start) split fit)).0 sound
       sound_other alike on),
 )
-
--- turns of hart 0 fit, where there is a hart
-pub turns-fit : (blind : Option Blind) (n : ℕ) (s : State) → 0 < length s.harts
-    → AllFit blind s (turns n)
-unfolding turns
-turns-fit blind zero s some = tt
-turns-fit blind (suc n) s some =
-    let before : State = state_before blind s in
-    let here : 0 < length before.harts =
-    subst (λ (harts : List Hart). 0 < length harts) (sym (harts-before blind s)) some in
-    let later : 0 < length (step before (Turn 0)).harts =
-    subst (λ (count : ℕ). 0 < count) (sym (harts_after before (Turn 0))) here in
-    (here, turns-fit blind n (step before (Turn 0)) later)

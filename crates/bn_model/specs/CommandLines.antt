@@ -1,14 +1,13 @@
 -- The words of a whole command line (this project's own grammar): `run` with all its options, and
--- `gen`. The module Words is the part of it that is built so far: an image and then `--ram`, `--steps`
--- and `--blind`, each with its value in the next word. Words that have an order there have the same
--- order here, with one hart, no script, no store and no moves.
-use Rattle.std.specs.Prelude.{ℕ, ◌-◌, ◌^◌, ◌==◌, Bool, true, false, List, [], ◌∷◌, ◌++◌, bytes_eq}
-use Rattle.std.specs.Prelude.{codes, filter_map, find, Option, Some, None, option_map}
+-- `gen`.
+use Rattle.std.specs.Prelude.{ℕ, ◌-◌, ◌^◌, ◌==◌, Bool, true, false, ◌&&◌, nat_le, List, [], ◌∷◌}
+use Rattle.std.specs.Prelude.{◌++◌, bytes_eq, codes, decimal, filter_map, find, Option, Some, None}
+use Rattle.std.specs.Prelude.{option_map}
 use Rattle.std.specs.List.{list_all}
 use Rattle.std.specs.Str.{is_utf8}
+use Rattle.std.specs.Str.Parse.{digits_value}
 use Rattle.bn_types.specs.Splitting.{split_by}
 use Rattle.bn_model.specs.Running.{Blind}
-use Rattle.bn_model.specs.Words.{number_between}
 
 -- ---- options
 
@@ -196,7 +195,26 @@ at_most_one absent read [] = Some absent
 at_most_one absent read (value ∷ []) = read value
 at_most_one absent read (value ∷ other ∷ values) = None
 
--- ---- values
+-- ---- numbers
+
+abbrev pub number_if : Bool → ℕ → Option ℕ
+number_if true n = Some n
+number_if false n = None
+
+-- a number is spelled in decimal, without leading zeros
+abbrev pub is_number : List ℕ → Bool
+is_number word = bytes_eq (decimal (digits_value 10 word)) word
+
+abbrev pub is_between : (least most n : ℕ) → Bool
+is_between least most n = nat_le least n && nat_le n most
+
+-- the number of a word, from least to most
+unfoldable pub number_between : (least most : ℕ) → List ℕ → Option ℕ
+number_between least most word =
+    number_if (is_number word && is_between least most (digits_value 10 word))
+    (digits_value 10 word)
+
+-- ---- a module and an event
 
 abbrev pub blind_with : Option ℕ → Option ℕ → Option (Option Blind)
 blind_with (Some m) (Some k) = Some (Some (record { blinded = record { 0 = m }; event = k }))
@@ -210,6 +228,8 @@ blind_in pieces = None
 -- `M@K`: a module, and the event before which it is blinded
 unfoldable pub blind_of : List ℕ → Option (Option Blind)
 blind_of value = blind_in (split_by 64 value)
+
+-- ---- other values
 
 abbrev pub file_of : List ℕ → Option (Option (List ℕ))
 file_of value = Some (Some value)

@@ -25,7 +25,6 @@ pub mod Launching
 pub mod Legality
 pub mod LineReading
 pub mod LineShapes
-pub mod Loading
 pub mod Memory
 pub mod Nesting
 pub mod Opening
@@ -60,4 +59,3 @@ pub mod WalkLaws
 pub mod Walking
 pub mod WholeReports
 pub mod WholeRuns
-pub mod Words

@@ -1,5 +1,5 @@
--- What the program does: its status and the text that it writes, from its words and the files.
-use Rattle.std.specs.Prelude.{ℕ, ◌*◌, List, [], ◌++◌, codes, decimal, flat_map, Option, Some, None}
+-- What the program says of a run: a status and a text.
+use Rattle.std.specs.Prelude.{ℕ, List, [], ◌++◌, codes, decimal, flat_map, Option, Some, None}
 use Rattle.sha2.specs.Sha256.{sha256}
 use Rattle.bn_types.specs.declared.digest.Digest.{Digest}
 use Rattle.bn_types.specs.declared.ending.Ending.{Ending}
@@ -12,13 +12,10 @@ use Rattle.bn_types.specs.declared.status.Status.TheVariants as status
 use Rattle.bn_types.specs.declared.image_fault.ImageFault.{ImageFault}
 use Rattle.bn_types.specs.declared.image_sort.ImageSort.{ImageSort}
 use Rattle.bn_types.specs.declared.image_sort.ImageSort.TheVariants as image_sort
-use Rattle.bn_model.specs.Loading.{Load, Ram, Faulty, Unbuilt, load_of}
-use Rattle.bn_model.specs.Opening.{opening}
-use Rattle.bn_model.specs.Running.{Built, Course, course, turns}
+use Rattle.bn_model.specs.Running.{Course}
 use Rattle.bn_model.specs.Spelling.{spelling, text_of}
 use Rattle.bn_model.specs.Memory.{visible}
 use Rattle.bn_model.specs.State.{State, memory}
-use Rattle.bn_model.specs.Words.{RunOrder, order_of}
 
 pub record Report : Type 0 where
   pub status : Status
@@ -54,11 +51,7 @@ abbrev pub report_of_course : Course → Report
 report_of_course c = let last = closing c.ending c.last in record last
     { text = text_of c.told ++ last.text }
 
--- ---- the whole
-
--- an image file has at most so many bytes
-unfoldable pub most_image_bytes : ℕ
-most_image_bytes = 33554432
+-- ---- image files
 
 abbrev pub sort_word : ImageSort → List ℕ
 sort_word image_sort.Long = codes "long"
@@ -79,33 +72,3 @@ sort_word image_sort.Entry = codes "entry"
 unfoldable pub fault_line : ImageFault → List ℕ
 fault_line fault = codes "image " ++ sort_word fault.sort ++ codes " " ++ decimal fault.at ++ codes
     "\n"
-
--- the run of an order, once its image is loaded
-abbrev pub report_of_load : Built → Load → RunOrder → Report
-report_of_load is_built Unbuilt order = unbuilt
-report_of_load is_built (Faulty fault) order =
-    record { status = status.Image; text = fault_line fault }
-report_of_load is_built (Ram image) order =
-    report_of_course
-    (course is_built order.blind (opening order.ram_pages 1 image []) (turns order.steps))
-
-abbrev pub missing : Report
-missing = record { status = status.NoFile; text = codes "missing image\n" }
-
-abbrev pub report_of_file : Built → Option (List ℕ) → RunOrder → Report
-report_of_file is_built None order = missing
-report_of_file is_built (Some file) order = report_of_load is_built
-    (load_of most_image_bytes (4096 * order.ram_pages) file) order
-
-abbrev pub report_of_order : Built → Option RunOrder → Files → Report
-report_of_order is_built None files = unbuilt
-report_of_order is_built (Some order) files =
-    report_of_file is_built (files order.image) order
-
--- the status and the text of a call with these words
-unfoldable pub report_of : Built → List (List ℕ) → Files → Report
-report_of is_built words files = report_of_order is_built (order_of words) files
-
--- where the image can't be read
-abbrev pub desk_failed : Report
-desk_failed = record { status = status.DeskFault; text = codes "desk image\n" }

@@ -1,11 +1,10 @@
 -- A run of the flat machine: its events in order, up to the first that shuts the machine down and
 -- up to before the first that isn't built.
-use Rattle.std.specs.Prelude.{◌≡◌, ◌≢◌, ℕ, zero, suc, ◌==◌, ◌⊎◌, Bool, true, false, List, [], ◌∷◌}
+use Rattle.std.specs.Prelude.{◌≡◌, ◌≢◌, ℕ, ◌==◌, ◌⊎◌, Bool, true, false, List, [], ◌∷◌}
 use Rattle.std.specs.Prelude.{◌++◌, Option, Some, None}
 use Rattle.bn_types.specs.declared.ending.Ending.{Ending}
 use Rattle.bn_types.specs.declared.ending.Ending.TheVariants.{Shutdown, Limit, Unbuilt}
 use Rattle.bn_types.specs.declared.event.Event.{Event}
-use Rattle.bn_types.specs.declared.event.Event.TheVariants.{Turn}
 use Rattle.bn_types.specs.declared.line.Line.{Line}
 use Rattle.bn_types.specs.declared.mod_id.ModId.{ModId}
 use Rattle.bn_model.specs.Blanking.{blank}
@@ -77,11 +76,6 @@ course is_built blind s (event ∷ events) =
     unless_off s.off s
     (onward (is_built before event) before (lines before event)
     (course is_built blind (step before event) events))
-
--- the first n events of a run without a script: turns of hart 0
-unfoldable pub turns : ℕ → List Event
-turns zero = []
-turns (suc n) = Turn 0 ∷ turns n
 
 -- ---- where a run comes
 

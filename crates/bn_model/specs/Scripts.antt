@@ -1,8 +1,9 @@
 -- Scripts (this project's own grammar): a text's lines, and the events that they order.
-use Rattle.std.specs.Prelude.{ℕ, zero, suc, ◌+◌, ◌-◌, ◌*◌, ◌%◌, ◌^◌, ◌==◌, Bool, true, false, ◌&&◌}
+use Rattle.std.specs.Prelude.{ℕ, zero, suc, ◌+◌, ◌-◌, ◌*◌, ◌%◌, ◌^◌, ◌==◌, ◌<◌, ◌≤◌, Bool, true}
+use Rattle.std.specs.Prelude.{false, ◌&&◌}
 use Rattle.std.specs.Prelude.{nat_le, nat_lt, List, [], ◌∷◌, ◌++◌, codes, flat_map, length, map}
 use Rattle.std.specs.Prelude.{replicate, Option, Some, None, Result, Ok, Err, if◌then◌else◌}
-use Rattle.std.specs.List.{range_with_len}
+use Rattle.std.specs.List.{All, range_with_len}
 use Rattle.std.specs.Str.{bytes_eq}
 use Rattle.bn_types.specs.Numerals.{numeral_below}
 use Rattle.bn_types.specs.Splitting.{split_by}
@@ -13,6 +14,7 @@ use Rattle.bn_types.specs.declared.script_sort.ScriptSort.{ScriptSort}
 use Rattle.bn_types.specs.declared.script_sort.ScriptSort.TheVariants as sort
 use Rattle.bn_model.specs.declared.command.Command.{Command}
 use Rattle.bn_model.specs.declared.command.Command.TheVariants.{Turn, Go, Key, Poke, Peek}
+use Rattle.bn_model.specs.Stepping.{FitsHarts}
 
 -- ---- one line
 
@@ -214,3 +216,15 @@ after_event script = script_from script.events script
 unfoldable pub first_events : ℕ → Script → List Event
 first_events zero script = []
 first_events (suc count) script = next_event script ∷ first_events count (after_event script)
+
+-- what is left after so many
+unfoldable pub after_events : ℕ → Script → Script
+after_events zero script = script
+after_events (suc count) script = after_events count (after_event script)
+
+-- each event that a script orders fits a machine of its harts
+pub record IsOrderly (script : Script) : Type 0 where
+  pub some : 1 ≤ script.harts
+  pub few : script.harts ≤ 4
+  pub turn : script.turn < script.harts
+  pub events : All (FitsHarts script.harts) script.events

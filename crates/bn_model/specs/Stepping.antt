@@ -229,10 +229,14 @@ lines s (Key byte) = key_line (has_room s.keys) s.clock byte ∷ []
 lines s (Poke page offset byte) = poke_line (seen_page s page) s.clock page offset byte ∷ []
 lines s (Peek page offset) = peek_line (seen_page s page) s.clock page offset ∷ []
 
--- an event fits a state: its hart is one of the state's, its offset lies in a page, and a key is a
--- byte
+-- an event fits a machine of so many harts: its hart is one of them, its offset lies in a page, and
+-- a key is a byte
+abbrev pub FitsHarts : (harts : ℕ) → Event → Type 0
+FitsHarts harts (Turn h) = h < harts
+FitsHarts harts (Key byte) = byte < 2 ^ 8
+FitsHarts harts (Poke page offset byte) = offset < 4096
+FitsHarts harts (Peek page offset) = offset < 4096
+
+-- it fits a state of so many
 abbrev pub Fits : State → Event → Type 0
-Fits s (Turn h) = h < length s.harts
-Fits s (Key byte) = byte < 2 ^ 8
-Fits s (Poke page offset byte) = offset < 4096
-Fits s (Peek page offset) = offset < 4096
+Fits s event = FitsHarts (length s.harts) event

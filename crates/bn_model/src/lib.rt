@@ -6,7 +6,6 @@ pub use command::Command;
 pub use head::Head;
 pub use owner::Owner;
 pub use place::Place;
-pub use run_options::RunOptions;
 pub use wires::Wires;
 
 mod command;
@@ -14,5 +13,4 @@ mod head;
 pub mod laws;
 mod owner;
 mod place;
-mod run_options;
 mod wires;

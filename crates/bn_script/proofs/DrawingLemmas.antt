@@ -3,6 +3,7 @@ use Rattle.std.proofs.Common.{add-one, subst, ◌≡◌, ℕ, zero, suc, ◌+◌
 use Rattle.std.proofs.Common.{false, nat_lt, List, [], ◌∷◌, ◌++◌, length, drop, get_or, replicate}
 use Rattle.std.proofs.Common.{map, Option, Some, None, refl, sym, ◌∙◌, ap, arith}
 use Rattle.std.proofs.lemmas.Bool.Decides.{nat_tests}
+use Rattle.std.proofs.Math.Nat.{mod-eq_of_lt, mod_self}
 use Rattle.std.proofs.lemmas.Grind.{common_steps}
 use Rattle.std.specs.List.{range_with_len, flat_map}
 use Rattle.std.specs.Prelude.{slice_get}
@@ -10,8 +11,11 @@ use Rattle.bn_types.specs.declared.event.Event.{Event}
 use Rattle.bn_types.specs.declared.event.Event.TheVariants as event
 use Rattle.bn_model.specs.declared.command.Command.{Command}
 use Rattle.bn_model.specs.declared.command.Command.TheVariants.{Turn, Go, Key, Poke, Peek}
-use Rattle.bn_model.specs.Scripts.{Script, after_event, event_from, events_of, next_event, rounds}
-use Rattle.bn_script.specs.Drawing.{GoesOn, count_at, event_of, script_at, turn_at}
+use Rattle.bn_model.specs.Scripts.{IsOrderly, Script, after_event, event_from, events_of}
+use Rattle.bn_model.specs.Scripts.{next_event}
+use Rattle.bn_model.specs.Scripts.{rounds}
+use Rattle.bn_model.proofs.ScriptLemmas.{after-orderly}
+use Rattle.bn_script.specs.Drawing.{CanBeDrawn, GoesOn, count_at, event_of, script_at, turn_at}
 use Rattle.bn_script.specs.Lines.{count_of}
 
 -- what is left of some turns of one hart
@@ -299,3 +303,23 @@ pub not_got : (commands : List Command) (at : ℕ) → length commands ≤ at
 not_got [] at past = refl
 not_got (first ∷ commands) zero past = grind arith
 not_got (first ∷ commands) (suc at) past = not_got commands at (omega arith)
+
+-- what is left of a script whose events fit
+pub drawn_on : (harts : ℕ) (commands : List Command) (at done next more : ℕ)
+    → CanBeDrawn harts commands at done → GoesOn harts commands next more
+    → script_at harts commands next more ≡ after_event (script_at harts commands at done)
+    → CanBeDrawn harts commands next more
+drawn_on harts commands at done next more before on is = record {
+  on = on;
+  orderly = subst IsOrderly (sym is) (after-orderly _ before.orderly);
+}
+
+-- ---- the hart after another
+
+pub hart_more : (hart harts : ℕ) → hart + 1 < harts → hart + 1 ≡ (hart + 1) % harts
+hart_more hart harts below = sym (mod-eq_of_lt below)
+
+pub first_hart : (hart harts : ℕ) → hart < harts → harts ≤ hart + 1 → 0 ≡ (hart + 1) % harts
+first_hart hart harts below last =
+    let all : hart + 1 ≡ harts = omega (arith, below, last) in
+    sym (ap (λ (n : ℕ). n % harts) all ∙ mod_self harts)

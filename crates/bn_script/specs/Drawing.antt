@@ -6,7 +6,7 @@ use Rattle.bn_types.specs.declared.event.Event.{Event}
 use Rattle.bn_types.specs.declared.event.Event.TheVariants as event
 use Rattle.bn_model.specs.declared.command.Command.{Command}
 use Rattle.bn_model.specs.declared.command.Command.TheVariants.{Turn, Go, Key, Poke, Peek}
-use Rattle.bn_model.specs.Scripts.{Script, events_of}
+use Rattle.bn_model.specs.Scripts.{IsOrderly, Script, events_of}
 use Rattle.bn_script.specs.Lines.{count_of}
 
 -- the event of a command that comes after so many of it
@@ -46,3 +46,8 @@ pub record GoesOn (harts : ℕ) (commands : List Command) (at done : ℕ) : Type
   pub orders : OrdersEvents harts commands
   pub place : at ≤ length commands
   pub within : done < count_at harts (slice_get commands at)
+
+-- one whose events fit, what is left of them
+pub record CanBeDrawn (harts : ℕ) (commands : List Command) (at done : ℕ) : Type 0 where
+  pub on : GoesOn harts commands at done
+  pub orderly : IsOrderly (script_at harts commands at done)

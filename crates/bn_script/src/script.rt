@@ -1,4 +1,4 @@
-ghost use Rattle.std.specs.Prelude.{◌≡◌, ◌+◌, ◌<◌, ◌≤◌, slice_get};
+ghost use Rattle.std.specs.Prelude.{◌≡◌, ◌+◌, ◌%◌, ◌<◌, ◌≤◌, slice_get};
 ghost use Rattle.bn_model.specs.Scripts as flat;
 ghost use Rattle.bn_script.specs.Drawing as drawing;
 ghost use Rattle.bn_script.specs.Lines as lines;
@@ -21,13 +21,13 @@ pub struct Script {
 
 impl Model for Script {
     ghost use Rattle.bn_model.specs.Scripts.{Script};
-    ghost use Rattle.bn_script.specs.Drawing.{GoesOn, script_at};
+    ghost use Rattle.bn_script.specs.Drawing.{CanBeDrawn, script_at};
 
     ghost Value = { Script };
 
     ghost view = { λ s. script_at s.harts s.commands.items s.at s.done };
 
-    ghost invariant = { λ s. GoesOn s.harts s.commands.items s.at s.done };
+    ghost invariant = { λ s. CanBeDrawn s.harts s.commands.items s.at s.done };
 }
 
 impl Script {
@@ -36,6 +36,7 @@ impl Script {
         requires some { 1 ≤ harts }
         requires few { harts ≤ 4 }
         requires orders { drawing.OrdersEvents harts commands.items }
+        requires orderly { flat.IsOrderly (flat.script_of harts commands.items) }
         ensures { result ≡ flat.script_of harts commands.items }
     {
         Script {
@@ -46,8 +47,17 @@ impl Script {
         }
     }
 
+    /// Each event fits a machine of the script's harts. It does nothing.
+    pub fn facts(&self)
+        ensures { flat.IsOrderly self.now }
+    {
+        // For the prover: reading a field tells what the invariant says of it.
+        let _harts = self.harts;
+    }
+
     /// Draws the next event. It never ends: after the events of the commands the harts take turns,
     /// from hart 0 on.
+    #[tactic(auto, using(crate::proofs::DrawingLemmas::drawn_on))]
     pub fn next_event(&mut self) -> Event
         ensures event { result ≡ flat.next_event self.old }
         ensures rest { self.new ≡ flat.after_event self.old }
@@ -96,9 +106,18 @@ fn draw(commands: &[Command], harts: u8, at: usize, done: u32) -> Drawn
         None => Drawn {
             event: Event::Turn(done as u8),
             at,
-            done: (done + 1) % u32::from(harts),
+            done: hart_after(done, u32::from(harts)),
         },
     }
+}
+
+/// The hart whose turn comes after this one's.
+#[tactic(auto, using(crate::proofs::DrawingLemmas::hart_more, crate::proofs::DrawingLemmas::first_hart))]
+fn hart_after(hart: u32, harts: u32) -> u32
+    requires { hart < harts }
+    ensures { result ≡ (hart + 1) % harts }
+{
+    if hart + 1 < harts { hart + 1 } else { 0 }
 }
 
 #[tactic(auto, using(crate::proofs::DrawingLemmas::got, crate::proofs::DrawingLemmas::not_got))]

@@ -1,7 +1,7 @@
 -- Pages that are given up, one after another.
-use Rattle.std.proofs.Common.{◌≡◌, ℕ, zero, suc, ◌+◌, ◌<◌, Bool, true, false, List, [], ◌∷◌, length}
-use Rattle.std.proofs.Common.{get_or, set, take, refl, sym, ap, ◌∙◌, arith, subst}
-use Rattle.std.proofs.lemmas.List.{set-get_or, take_more}
+use Rattle.std.proofs.Common.{◌≡◌, ℕ, zero, suc, ◌+◌, ◌<◌, List, [], ◌∷◌, length}
+use Rattle.std.proofs.Common.{get_or, refl, sym, ap, ◌∙◌, arith}
+use Rattle.std.proofs.lemmas.List.{set-get_or}
 use Rattle.std.specs.Prelude.{slice_set}
 use Rattle.bn_types.specs.Numbers.{page_at}
 use Rattle.bn_types.specs.declared.row.Row.{Row}

@@ -1,13 +1,14 @@
 -- The memory of a unit, and what its accesses come to.
 use Rattle.std.specs.Prelude.{◌≡◌, ◌≢◌, ℕ, ◌%◌, ◌<◌, Bool, true, false, List, Option, Some, None}
 use Rattle.std.specs.Prelude.{Result, Ok, Err}
-use Rattle.bn_types.specs.Numbers.{bytes_of}
+use Rattle.bn_types.specs.Numbers.{bytes_of, number_at}
 use Rattle.bn_types.specs.declared.asker.Asker.{Asker}
 use Rattle.bn_types.specs.declared.cause.Cause.{Cause}
 use Rattle.bn_types.specs.declared.fault.Fault.{Fault}
 use Rattle.bn_types.specs.declared.gpn.Gpn.{Gpn}
 use Rattle.bn_types.specs.declared.kind.Kind.{Kind}
 use Rattle.bn_types.specs.declared.width.Width.{Width}
+use Rattle.bn_types.specs.declared.width.Width.TheVariants.{B1}
 use Rattle.bn_model.specs.declared.place.Place.{Place}
 use Rattle.bn_model.specs.declared.owner.Owner.{Owner}
 use Rattle.bn_model.specs.Accessing.{fault, place_on}
@@ -44,6 +45,22 @@ bytes_if false bytes = None
 abbrev pub words_if : Bool → ℕ
 words_if true = 3
 words_if false = 0
+
+-- a device reaches a page that can be read
+abbrev pub is_seen : Option (Option (List ℕ)) → Bool
+is_seen None = false
+is_seen (Some None) = false
+is_seen (Some (Some bytes)) = true
+
+-- the byte that it reads there
+abbrev pub byte_seen : Option (Option (List ℕ)) → (offset : ℕ) → Option ℕ
+byte_seen None offset = None
+byte_seen (Some None) offset = None
+byte_seen (Some (Some bytes)) offset = Some (number_at B1 bytes offset)
+
+-- three table words where it reaches one
+abbrev pub words_seen : Option (Option (List ℕ)) → ℕ
+words_seen content = words_if (is_seen content)
 
 -- an aligned access of this width at a place in RAM
 pub record IsWithin (ram : ℕ) (place : Place) (width : Width) : Type 0 where

@@ -27,6 +27,7 @@ use std::marker::Model;
 use std::sync::ledger::Ledger;
 
 mod blanking;
+mod devices;
 mod releasing;
 
 /// The physical page number at which RAM begins, that of guest physical address 0x80000000.

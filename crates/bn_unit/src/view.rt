@@ -57,7 +57,7 @@ impl<'a> View<'a> {
     }
 
     /// Whether it is a page of RAM that no module owns.
-    fn is_free(&self, page: Gpn) -> bool
+    pub(crate) fn is_free(&self, page: Gpn) -> bool
         ensures { result
             ≡ (nat_lt page.0 self.now.nest.ram && not (is_owned self.now.live page.0)) }
     {

@@ -124,7 +124,7 @@ impl Engine {
                 };
                 self.access_csr(h, &asked, rd, lines);
             }
-            Act::Ecall => return self.call_environment(h, lines),
+            Act::Ecall => self.call_environment(h, lines),
             Act::Ebreak => self.trap(h, BREAKPOINT, 0, lines),
             Act::Sret => self.return_or_trap(h, lines),
             Act::Wfi | Act::SfenceVma => self.go_on_or_trap(h, lines),

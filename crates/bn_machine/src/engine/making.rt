@@ -1,6 +1,7 @@
 //! What turns come to, made: each of these ends an event.
 ghost use Rattle.std.specs.Prelude.{◌≡◌, ◌≢◌, ◌-◌, ◌^◌, ◌<◌, ◌≤◌, ◌%◌, ◌++◌, ◌∷◌, ℕ, [], length};
 ghost use Rattle.bn_types.specs.declared.line.Line.TheVariants as line;
+ghost use Rattle.bn_model.specs.Deciding.{decision_of_get};
 ghost use Rattle.bn_model.specs.Decision as turn;
 ghost use Rattle.bn_model.specs.Refusals.{minus, minus_in_64_bits};
 ghost use Rattle.bn_model.specs.Each.{each};
@@ -11,7 +12,7 @@ ghost use Rattle.bn_model.specs.Stepping.{after_launch, after_tick, hart_by_mask
 ghost use Rattle.bn_model.specs.Walking as walking;
 ghost use Rattle.bn_machine.specs.Making.{IsRefusalCode, state_after, text_after};
 ghost use Rattle.bn_machine.specs.Harts.{raised};
-ghost use Rattle.bn_machine.specs.Standing.{HasRoomFor};
+ghost use Rattle.bn_machine.specs.Standing.{HasRoomFor, MayStart};
 
 use crate::LineBuf;
 use crate::engine::Engine;
@@ -311,14 +312,38 @@ impl Engine {
         self.clock += 1;
     }
 
-    /// No key waits: a0 is minus 1.
-    pub(super) fn find_no_key(&mut self, hart: u8)
+    /// a0 is the oldest key that waits, which leaves, or minus 1 where none does.
+    pub(super) fn take_key(&mut self, hart: u8)
         requires hart { hart < length self.old.state.harts }
         requires clock { self.old.state.clock < 2 ^ 64 - 1 }
-        ensures none { self.old.state.keys ≡ [] }
-        ensures stepped { self.new.state ≡ state_after self.old.state hart turn.NoKey }
+        ensures { self.new.state
+            ≡ state_after self.old.state hart (decision_of_get self.old.state.keys) }
     {
-        self.harts[hart as usize].go_on_with(A0, u64::MAX);
+        match self.keys.pop_at(0) {
+            Some(key) => self.harts[hart as usize].go_on_with(A0, u64::from(key)),
+            None => self.harts[hart as usize].go_on_with(A0, u64::MAX),
+        }
+        self.clock += 1;
+    }
+
+    /// Starts another hart, which runs no module.
+    pub(super) fn start(&mut self, hart: u8, target: u8, pc: u64, opaque: u64, lines: &mut LineBuf)
+        requires hart { hart < length self.old.state.harts }
+        requires target { MayStart self.old.state target }
+        requires clock { self.old.state.clock < 2 ^ 64 - 1 }
+        requires empty { lines.old ≡ [] }
+        ensures stepped { self.new.state
+            ≡ state_after self.old.state hart (turn.Start target pc opaque) }
+        ensures told { lines.new ≡ text_after self.old.state hart (turn.Start target pc opaque) }
+    {
+        lines.push(&Line::Start {
+            n: self.clock,
+            h: hart,
+            t: target,
+            p: pc,
+        });
+        self.harts[hart as usize].answer(0);
+        self.harts[target as usize].start(target, pc, opaque);
         self.clock += 1;
     }
 

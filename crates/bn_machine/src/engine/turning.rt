@@ -6,7 +6,7 @@ ghost use Rattle.bn_model.specs.Deciding.{asked_of_insn, asked_of_interrupt, ask
 ghost use Rattle.bn_model.specs.Deciding.{decision_of_asked};
 ghost use Rattle.bn_model.specs.Decoding.{insn_of};
 ghost use Rattle.bn_model.specs.InsnRanges.{IsActInRange, IsInRange};
-ghost use Rattle.bn_model.specs.Interrupts.{interrupt_of, wires_of};
+ghost use Rattle.bn_model.specs.Interrupts.{external_pending, interrupt_of, wires_of};
 ghost use Rattle.bn_model.specs.Soundness.{IsSound};
 ghost use Rattle.bn_model.specs.State.{hart_at, untrusted};
 ghost use Rattle.bn_model.specs.Switching.{stopped_at};
@@ -105,15 +105,22 @@ impl Engine {
         hart.csrs().pending(hart.mode(), &self.wires(h))
     }
 
-    /// The interrupts that come to hart h from outside. No key can come yet.
+    /// The interrupts that come to hart h from outside.
     pub(super) fn wires(&self, h: u8) -> Wires
         requires { h < length self.now.state.harts }
         ensures { result ≡ wires_of self.now.state h (hart_at self.now.state h) }
     {
         Wires {
             timer: self.harts[h as usize].timer() <= self.clock,
-            external: false,
+            external: self.has_key_for(h),
         }
+    }
+
+    /// Whether keys wait, which come to hart 0 alone.
+    fn has_key_for(&self, h: u8) -> bool
+        ensures { result ≡ external_pending self.now.state h }
+    {
+        h == 0 && !self.keys.is_empty()
     }
 
     fn fetch_and_execute<L: Ledger>(

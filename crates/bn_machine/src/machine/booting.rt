@@ -8,15 +8,19 @@ ghost use Rattle.bn_model.specs.Standing.{StandsFor};
 ghost use Rattle.bn_machine.specs.Loads.{opening_of};
 ghost use Rattle.bn_unit.specs.Memory.{AllPlaced};
 
+use crate::Settings;
 use crate::engine::Engine;
 use crate::hart::Hart;
 use crate::machine::Machine;
-use crate::{Loaded, Settings};
 use bn_frames::Frames;
+use bn_loader::Loaded;
 use bn_types::{Frame, Gpn, NoMemory, Width};
 use bn_unit::Unit;
 use n_walk::{Nest, PoolEmpty};
 use std::alloc::Global;
+
+/// The bytes of a page of zeros.
+const ZEROS: [u8; 4096] = [0; 4096];
 
 /// Frames that are free when all pages are placed.
 const SPARE_FRAMES: u32 = 16;
@@ -132,8 +136,25 @@ fn place_page(nest: &mut Nest, page: Gpn) -> Frame
     }
 }
 
-/// Writes 4,096 bytes to the frame of a page.
+/// Puts 4,096 bytes in a page of zeros, where they aren't all zeros.
 fn fill_page(nest: &mut Nest, page: Gpn, frame: Frame, bytes: &[u8])
+    requires placed { place nest.old page.0 ≡ Some frame }
+    requires inside { page.0 < length (contents nest.old) }
+    requires size { length bytes.now ≡ 4096 }
+    requires zeros { page_at (contents nest.old) page.0 ≡ zero_page }
+    ensures contents { contents nest.new ≡ slice_set (contents nest.old) page.0 bytes.now }
+    ensures places { (other : ℕ) → place nest.new other ≡ place nest.old other }
+    ensures ram { nest.new.ram ≡ nest.old.ram }
+    ensures free { nest.new.free ≡ nest.old.free }
+    ensures frames { length nest.new.frames ≡ length nest.old.frames }
+{
+    if bytes != ZEROS.as_slice() {
+        write_page(nest, page, frame, bytes);
+    }
+}
+
+/// Writes 4,096 bytes to the frame of a page.
+fn write_page(nest: &mut Nest, page: Gpn, frame: Frame, bytes: &[u8])
     requires placed { place nest.old page.0 ≡ Some frame }
     requires inside { page.0 < length (contents nest.old) }
     requires size { length bytes.now ≡ 4096 }

@@ -1,27 +1,29 @@
 //! Runs.
-ghost use Rattle.std.specs.Prelude.{◌≡◌, ◌+◌, ◌-◌, ◌^◌, ◌<◌, ◌↔◌, false, length, IfOk, IsOk, IsTrue};
+ghost use Rattle.std.specs.Prelude.{◌≡◌, ◌+◌, ◌-◌, ◌^◌, ◌<◌, ◌↔◌, false, length, IfOk, IsOk};
+ghost use Rattle.std.specs.Prelude.{IsTrue};
 ghost use Rattle.std.specs.Prelude.{OnErr, OnOk};
 ghost use Rattle.bn_edge.specs.Counts.{CountsRefusals};
 ghost use Rattle.bn_edge.specs.Written.{WritesFront};
 ghost use Rattle.bn_model.specs.BlankingLaws.{HidesSecrets, TellsNoneOf};
-ghost use Rattle.bn_model.specs.Running.{blind_at, course, state_before, turns};
+ghost use Rattle.bn_model.specs.Running.{blind_at, course, state_before};
+ghost use Rattle.bn_model.specs.Scripts.{IsOrderly, first_events};
 ghost use Rattle.bn_model.specs.Spelling.{text_of};
 ghost use Rattle.bn_model.specs.Stepping as flat;
-ghost use Rattle.bn_types.specs.declared.event.Event.TheVariants as event;
 ghost use Rattle.bn_machine.specs.Built.{is_built_event};
-ghost use Rattle.bn_machine.specs.Telling.{FinishesRun, StopsRun};
+ghost use Rattle.bn_machine.specs.Telling.{FinishesRun, IsLeftOf, StopsRun};
 
 use crate::machine::Machine;
-use crate::writing::write_all;
 use crate::{LineBuf, Unbuilt};
-use bn_edge::{Sink, SinkFailed};
+use bn_edge::{Sink, SinkFailed, write_all};
+use bn_script::Script;
 use bn_types::{Ending, Event, ModId, Steps};
 use std::sync::ledger::Ledger;
 
 impl Machine {
-    /// Makes turns of hart 0, at most `limit`, and writes their lines. Where `blind` is a module and
-    /// the number of an event, the module's secrets are zeroed just before this event, where there
-    /// is one.
+    /// Makes the events of a script, at most `limit`, and writes their lines. Where `blind` is a
+    /// module and the number of an event, the module's secrets are zeroed just before this event,
+    /// where there is one. The script is for a machine of so many harts. No pages can be moved to
+    /// other frames yet, so `moves` is 0.
     ///
     /// Whatever the guest does, a module's secrets make no difference to what is written until the
     /// module runs, nor to the lines of the event in which it starts.
@@ -30,33 +32,42 @@ impl Machine {
     /// whose lines couldn't all be written.
     pub fn run<O: Sink, L: Ledger>(
         &mut self,
+        script: &mut Script,
         limit: u64,
         blind: Option<(ModId, u64)>,
+        moves: u64,
         out: &mut O,
         steps: &mut Steps<L>,
     ) -> Result<Ending, SinkFailed>
         requires on { self.old.state.off ≡ false }
+        requires harts { script.old.harts ≡ length self.old.state.harts }
         requires clock { self.old.state.clock + limit < 2 ^ 64 }
+        requires still { moves ≡ 0 }
         ensures finished { IfOk result (λ ending. FinishesRun
-            (course is_built_event (blind_at blind) self.old.state (turns limit)) ending
-            self.new.state
-            (O.account out.old) (O.account out.new)) }
+            (course is_built_event (blind_at blind) self.old.state (first_events limit script.old))
+            ending self.new.state (O.account out.old) (O.account out.new)) }
         ensures stopped { OnErr result (StopsRun (blind_at blind) self.old.state self.new.state
-            (turns limit) (O.account out.old) (O.account out.new)) }
+            (first_events limit script.old) (O.account out.old) (O.account out.new)) }
         ensures front { OnErr result (WritesFront (O.account out.old) (O.account out.new)
-            (text_of (course is_built_event (blind_at blind) self.old.state (turns limit)).told)) }
+            (text_of (course is_built_event (blind_at blind) self.old.state
+            (first_events limit script.old)).told)) }
         ensures failed { CountsRefusals result
             (O.account out.old).faults (O.account out.new).faults }
-        ensures hidden { HidesSecrets (blind_at blind) self.old.state (turns limit) }
-        ensures alike { TellsNoneOf (blind_at blind) self.old.state (turns limit) }
+        ensures drawn { IsLeftOf limit script.old script.new }
+        ensures hidden { HidesSecrets (blind_at blind) self.old.state
+            (first_events limit script.old) }
+        ensures alike { TellsNoneOf (blind_at blind) self.old.state
+            (first_events limit script.old) }
     {
-        // For the prover: hart 0 is there.
-        self.engine.stand();
-        // For the prover: what is written shows no secrets.
-        self.hide_secrets(blind, limit);
+        // For the prover: the script's events fit, and what is written shows no secrets.
+        script.facts();
+        self.hide_secrets(script, blind, limit);
         let mut lines = LineBuf::new();
-        for _turn in 0..limit {
-            match self.take_next_turn(blind, &mut lines, steps) {
+        for _event in 0..limit {
+            // For the prover: the next one fits.
+            script.facts();
+            let event = script.next_event();
+            match self.make_event(event, blind, &mut lines, steps) {
                 Ok(()) => {}
                 Err(_) => return Ok(Ending::Unbuilt),
             }
@@ -68,37 +79,42 @@ impl Machine {
         Ok(Ending::Limit)
     }
 
-    /// A run of so many turns shows nothing of a module's secrets while the module rests. It does
+    /// A run of so many events shows nothing of a module's secrets while the module rests. It does
     /// nothing.
-    fn hide_secrets(&self, blind: Option<(ModId, u64)>, limit: u64)
-        ensures hidden { HidesSecrets (blind_at blind) self.now.state (turns limit) }
-        ensures alike { TellsNoneOf (blind_at blind) self.now.state (turns limit) }
+    fn hide_secrets(&self, script: &Script, blind: Option<(ModId, u64)>, limit: u64)
+        requires orderly { IsOrderly script.now }
+        requires harts { script.now.harts ≡ length self.now.state.harts }
+        ensures hidden { HidesSecrets (blind_at blind) self.now.state
+            (first_events limit script.now) }
+        ensures alike { TellsNoneOf (blind_at blind) self.now.state
+            (first_events limit script.now) }
     {
         // For the prover: reading a field tells what the invariant says of it.
         let _engine = &self.engine;
     }
 
-    /// Makes a turn of hart 0, before which the secrets of the module are zeroed where it is the
-    /// event of this number.
-    fn take_next_turn<L: Ledger>(
+    /// Makes an event, before which the secrets of the module are zeroed where it is the event of
+    /// this number.
+    fn make_event<L: Ledger>(
         &mut self,
+        event: Event,
         blind: Option<(ModId, u64)>,
         lines: &mut LineBuf,
         steps: &mut Steps<L>,
     ) -> Result<(), Unbuilt>
         requires on { self.old.state.off ≡ false }
-        requires hart { 0 < length self.old.state.harts }
+        requires fits { flat.Fits self.old.state event }
         requires clock { self.old.state.clock < 2 ^ 64 - 1 }
         ensures built { IsOk result ↔ IsTrue
-            (is_built_event (state_before (blind_at blind) self.old.state) (event.Turn 0)) }
+            (is_built_event (state_before (blind_at blind) self.old.state) event) }
         ensures stepped { OnOk result (self.new.state
-            ≡ flat.step (state_before (blind_at blind) self.old.state) (event.Turn 0)) }
+            ≡ flat.step (state_before (blind_at blind) self.old.state) event) }
         ensures told { OnOk result (lines.new
-            ≡ text_of (flat.lines (state_before (blind_at blind) self.old.state) (event.Turn 0))) }
+            ≡ text_of (flat.lines (state_before (blind_at blind) self.old.state) event)) }
         ensures unchanged { OnErr result
             (self.new.state ≡ state_before (blind_at blind) self.old.state) }
     {
         self.blank_before_event(blind, steps);
-        self.turn(Event::Turn(0), lines, steps)
+        self.turn(event, lines, steps)
     }
 }

@@ -37,7 +37,10 @@ impl Machine {
         lines.clear();
         let made = match event {
             Event::Turn(hart) => self.engine.take_turn(hart, lines, steps),
-            _ => Err(Unbuilt),
+            _ => {
+                self.engine.serve_device(event, lines, steps);
+                Ok(())
+            }
         };
         // For the prover: the parts stand for a state of the flat machine.
         self.engine.stand();

@@ -325,3 +325,72 @@ fn the_unit_ends_where_ram_ends(rt: HostRuntime) {
 fn a_view_has_the_pages_of_ram(rt: HostRuntime) {
     try_view::<Brand>(&rt, rt.alloc(), Blank::new(1));
 }
+
+fn try_devices<L: Ledger>(rt: &impl Abort, alloc: Global, blank: Blank)
+    requires name { blank.name ≡ L.name }
+    requires parts { blank.parts ≡ L.parts }
+    requires some { 0 < L.parts }
+{
+    let mut steps = Steps::<L>::open(blank);
+    let mut unit = unit_of(rt, alloc);
+    assert!(rt; unit.poke(Gpn(5), 8, 0x7f, &mut steps));
+    assert_eq!(rt; unit.peek(Gpn(5), 8, &mut steps), Some(0x7f));
+    assert_eq!(rt; unit.peek(Gpn(5), 7, &mut steps), Some(0));
+    assert_eq!(rt; unit.peek(Gpn(5), 9, &mut steps), Some(0));
+    let load = unit.load(&bare(), 0x80005008, Width::B8, &mut steps);
+    assert_eq!(rt; load, Ok(0x7f));
+    // the last byte of RAM, and no page behind it
+    assert!(rt; unit.poke(Gpn(15), 4095, 0x80, &mut steps));
+    assert_eq!(rt; unit.peek(Gpn(15), 4095, &mut steps), Some(0x80));
+    assert!(rt; !unit.poke(Gpn(16), 0, 0x80, &mut steps));
+    assert_eq!(rt; unit.peek(Gpn(16), 0, &mut steps), None);
+    assert_eq!(rt; unit.peek(Gpn(2000), 0, &mut steps), None);
+}
+
+fn try_border<L: Ledger>(rt: &impl Abort, alloc: Global, blank: Blank)
+    requires name { blank.name ≡ L.name }
+    requires parts { blank.parts ≡ L.parts }
+    requires some { 0 < L.parts }
+{
+    let mut steps = Steps::<L>::open(blank);
+    let mut unit = unit_of(rt, alloc);
+    assert!(rt; unit.poke(Gpn(6), 0, 1, &mut steps));
+    assert!(rt; unit.poke(Gpn(5), 4095, 2, &mut steps));
+    assert_eq!(rt; unit.peek(Gpn(5), 4095, &mut steps), Some(2));
+    assert_eq!(rt; unit.peek(Gpn(6), 0, &mut steps), Some(1));
+    assert_eq!(rt; unit.peek(Gpn(6), 4095, &mut steps), Some(0));
+    assert_eq!(rt; unit.peek(Gpn(4), 4095, &mut steps), Some(0));
+}
+
+fn try_owned_byte<L: Ledger>(rt: &impl Abort, alloc: Global, blank: Blank)
+    requires name { blank.name ≡ L.name }
+    requires parts { blank.parts ≡ L.parts }
+    requires some { 0 < L.parts }
+{
+    let mut steps = Steps::<L>::open(blank);
+    let mut unit = unit_of(rt, alloc);
+    assert!(rt; unit.poke(Gpn(5), 8, 7, &mut steps));
+    unit.own(&module_row());
+    assert!(rt; !unit.poke(Gpn(5), 8, 9, &mut steps));
+    assert_eq!(rt; unit.peek(Gpn(5), 8, &mut steps), None);
+    let load = unit.load(&inside(1), 0x80005008, Width::B8, &mut steps);
+    assert_eq!(rt; load, Ok(7));
+    // its neighbours are free
+    assert!(rt; unit.poke(Gpn(4), 4095, 9, &mut steps));
+    assert_eq!(rt; unit.peek(Gpn(6), 0, &mut steps), Some(0));
+}
+
+#[test]
+fn devices_reach_the_bytes_of_ram(rt: HostRuntime) {
+    try_devices::<Brand>(&rt, rt.alloc(), Blank::new(1));
+}
+
+#[test]
+fn a_poke_stays_in_its_page(rt: HostRuntime) {
+    try_border::<Brand>(&rt, rt.alloc(), Blank::new(1));
+}
+
+#[test]
+fn devices_leave_owned_pages(rt: HostRuntime) {
+    try_owned_byte::<Brand>(&rt, rt.alloc(), Blank::new(1));
+}

@@ -62,7 +62,8 @@ impl Unit {
     /// Zeroes a page of RAM.
     pub(super) fn zero_page<L: Ledger>(&mut self, page: Gpn, steps: &mut Steps<L>)
         requires inside { page.0 < self.old.nest.ram }
-        ensures pages { contents self.new.nest ≡ slice_set (contents self.old.nest) page.0 zero_page }
+        ensures pages { contents self.new.nest
+            ≡ slice_set (contents self.old.nest) page.0 zero_page }
         ensures live { self.new.live ≡ self.old.live }
         ensures nested { IsNested self.new.nest }
         ensures ram { self.new.nest.ram ≡ self.old.nest.ram }

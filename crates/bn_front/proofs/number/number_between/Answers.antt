@@ -1,5 +1,5 @@
 use Rattle.std.proofs.Common.{◌∙◌, Bool, sym, ap, arith}
-use Rattle.bn_model.specs.Words.{number_if}
+use Rattle.bn_model.specs.CommandLines.{number_if}
 use Rattle.bn_front.proofs.NumberLemmas.{no_numeral, numeral_between}
 use Rattle.bn_front.proofs.number.number_between.Goals as goal
 

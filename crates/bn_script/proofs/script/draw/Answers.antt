@@ -1,4 +1,4 @@
-use Rattle.std.proofs.Common.{◌≡◌, ◌<◌, ◌≤◌, ◌+◌, ◌%◌, ◌∙◌, ℕ, sym, subst, arith}
+use Rattle.std.proofs.Common.{◌≡◌, ◌<◌, ◌≤◌, ◌+◌, ◌%◌, ◌∙◌, ℕ, sym, ap, subst, arith}
 use Rattle.bn_model.specs.Scripts.{after_event}
 use Rattle.bn_script.specs.Drawing.{GoesOn, script_at}
 use Rattle.bn_script.proofs.DrawingLemmas.{draws_here, goes_over, next_past, on_over, on_past}
@@ -21,12 +21,11 @@ overflow_cast-result c =
     (sym c.in-None.ensures) in
     omega (arith, few, c.requires.few)
 
-pub overflow_add-result-in-None : goal.overflow_add-result-in-None
-overflow_add-result-in-None c =
-    let few : c.args.done < c.args.harts =
-    past_here c.args.harts c.args.commands.now c.args.at c.args.done c.requires
-    (sym c.in-None.ensures) in
-    omega (arith, few, c.requires.few)
+pub hart_after-requires : goal.hart_after-requires
+hart_after-requires c =
+    rw c.from.ensures
+    (past_here c.args.harts c.args.commands.now c.args.at c.args.done c.requires
+    (sym c.in-None.ensures))
 
 pub returns-then-more : goal.returns-then-more
 returns-then-more c =
@@ -59,14 +58,13 @@ returns-in-None c =
     let harts = c.args.harts in let commands = c.args.commands.now in let at = c.args.at in
     let done = c.args.done in
     let none = sym c.in-None.ensures in
+    let next : c.hart_after.result ≡ (done + 1) % harts =
+    c.hart_after.ensures ∙ ap (λ (n : ℕ). (done + 1) % n) c.from.ensures in
     record {
       event = next_past harts commands at done none;
-      rest = subst (λ (n : ℕ).
-          script_at c.args.harts c.args.commands.now c.args.at ((c.args.done + 1) % n) ≡
-          after_event (script_at c.args.harts c.args.commands.now c.args.at c.args.done))
-          (sym c.from.ensures) (rest_past harts commands at done none);
-      on = subst (λ (n : ℕ).
-          GoesOn c.args.harts c.args.commands.now c.args.at ((c.args.done + 1) % n))
-          (sym c.from.ensures)
+      rest = subst (λ (n : ℕ). script_at harts commands at n
+          ≡ after_event (script_at harts commands at done)) (sym next)
+          (rest_past harts commands at done none);
+      on = subst (λ (n : ℕ). GoesOn harts commands at n) (sym next)
           (on_past harts commands at done c.requires none);
     }

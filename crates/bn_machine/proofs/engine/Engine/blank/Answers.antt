@@ -1,7 +1,6 @@
 use Rattle.std.proofs.Common.{sym, ap, ◌∙◌}
 use Rattle.std.specs.List.{list_any}
 use Rattle.bn_model.specs.Blanking.{runs}
-use Rattle.bn_model.specs.State.{Hart}
 use Rattle.bn_machine.specs.Standing.{Standing}
 use Rattle.bn_machine.proofs.ZeroedPages.{blank-running}
 use Rattle.bn_machine.proofs.engine.Engine.blank.Goals as goal

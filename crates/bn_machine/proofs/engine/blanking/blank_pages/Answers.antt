@@ -1,9 +1,8 @@
-use Rattle.std.proofs.Common.{List, refl, sym, ap, ap₂, subst, ◌∙◌, take, get_or}
+use Rattle.std.proofs.Common.{List, refl, sym, ap, ◌∙◌, take, get_or}
 use Rattle.std.proofs.lemmas.List.{take_more}
 use Rattle.bn_types.specs.declared.decl.Decl.{Decl}
 use Rattle.bn_model.specs.Nesting.{contents}
-use Rattle.bn_model.specs.declared.owner.Owner.{Owner}
-use Rattle.bn_machine.specs.Zeroing.{IsHeld, after_decl, zeroed_pages}
+use Rattle.bn_machine.specs.Zeroing.{after_decl, zeroed_pages}
 use Rattle.bn_machine.proofs.ZeroedPages.{held-by, zeroed-more, zeroed-none}
 use Rattle.bn_machine.proofs.engine.blanking.blank_pages.Goals as goal
 

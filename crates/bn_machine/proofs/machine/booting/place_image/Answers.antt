@@ -1,10 +1,10 @@
 use Rattle.std.proofs.Common.{◌≡◌, ℕ, ◌<◌, length, ap, ◌∙◌, arith}
 use Rattle.std.proofs.lemmas.List.{length-replicate}
-use Rattle.bn_types.specs.Numbers.{AreWhole, zero_page}
+use Rattle.bn_types.specs.Numbers.{zero_page}
 use Rattle.bn_model.specs.Nesting.{contents}
 use Rattle.bn_model.specs.Opening.{pages_of}
-use Rattle.bn_machine.proofs.Filling.{all_filled, filled_more, page_inside, page_whole}
-use Rattle.bn_machine.proofs.Filling.{range_is_page, whole_zeros}
+use Rattle.bn_machine.proofs.Filling.{all_filled, filled_more, page_inside, page_zeros}
+use Rattle.bn_machine.proofs.Filling.{range_is_page}
 use Rattle.bn_machine.proofs.machine.booting.place_image.Goals as goal
 
 pub fill_page-requires-clause-inside : goal.fill_page-requires-clause-inside
@@ -15,15 +15,14 @@ fill_page-requires-clause-inside c =
     rw (c.place_page-frame.ensures.contents ∙ c.loop-number.invariant.held)
     (page_inside (contents c.build-nest.result) c.loop-number.number c.args.bytes.now below)
 
-pub fill_page-requires-clause-whole : goal.fill_page-requires-clause-whole
-fill_page-requires-clause-whole c =
+pub fill_page-requires-clause-zeros : goal.fill_page-requires-clause-zeros
+fill_page-requires-clause-zeros c =
     let size : length (contents c.build-nest.result) ≡ c.args.ram_pages =
     ap length c.build-nest.ensures.contents ∙ length-replicate c.args.ram_pages zero_page in
     let below : c.loop-number.number < length (contents c.build-nest.result) = omega arith in
-    let whole : AreWhole (contents c.build-nest.result) =
-    rw c.build-nest.ensures.contents (whole_zeros c.args.ram_pages) in
     rw (c.place_page-frame.ensures.contents ∙ c.loop-number.invariant.held)
-    (page_whole (contents c.build-nest.result) c.loop-number.number c.args.bytes.now whole below)
+    (page_zeros (contents c.build-nest.result) c.args.ram_pages c.loop-number.number
+    c.args.bytes.now c.build-nest.ensures.contents below)
 
 pub loop-number-preserved : goal.loop-number-preserved
 loop-number-preserved c =

@@ -1,0 +1,16 @@
+use Rattle.std.proofs.Common.{Some, refl, subst, sym}
+use Rattle.bn_front.specs.declared.order.Order.{Order}
+use Rattle.bn_front.specs.Built.{task_by}
+use Rattle.bn_front.specs.Headline.{outside}
+use Rattle.bn_front.specs.Meant.{order_meant}
+use Rattle.bn_front.specs.Story.{IsStory}
+use Rattle.bn_front.proofs.Serving.{unbuilt_story}
+use Rattle.bn_front.proofs.top.serve_order.Goals as goal
+
+pub returns-in-Gen-clause-story : goal.returns-in-Gen-clause-story
+returns-in-Gen-clause-story g c =
+    let old = outside (g.D.Desk.account c.args.desk.now) (g.O.Sink.account c.args.out.now) in
+    let new = outside (g.D.Desk.account c.args.desk.now) (g.O.Sink.account c.say.new.out) in
+    subst (λ (order : Order). IsStory c.say.result (task_by (Some (order_meant order))) old new)
+    (sym c.in-Gen.is)
+    (unbuilt_story c.say.result old new refl (c.say.ensures.spoken, c.say.ensures.answers))

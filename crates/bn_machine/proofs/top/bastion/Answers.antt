@@ -1,8 +1,0 @@
-use Rattle.bn_machine.proofs.Stories as stories
-use Rattle.bn_machine.proofs.top.bastion.Goals as goal
-
-pub returns : goal.returns
-returns g c = record {
-  promise = stories.promise _ _ _ _ c.serve.ensures.story
-      c.serve.ensures.counted;
-}
