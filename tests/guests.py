@@ -6,28 +6,23 @@ import subprocess
 import tempfile
 import textwrap
 
-from interpreter import UNBUILT, Machine
+from interpreter import Machine
 
 HERE = pathlib.Path(__file__).resolve().parent
 TESTS = HERE.parent / "crates" / "bn_front" / "src" / "tests"
 PREFIX = "riscv64-unknown-elf-"
-# folders of guests that stand in one test module each: what the emulator lacks there, what they are,
-# and the test's name
+# folders of guests that stand in one test module each: what they are, and the test's name
 FOLDERS = {
     "launches": (
-        UNBUILT,
         "Guests that launch modules: what a module is known by, and each refusal in its order.",
         "modules_are_launched_or_refused"),
     "owned_pages": (
-        UNBUILT,
         "Guests that reach for the pages of modules, as programs and by their page tables.",
         "pages_of_modules_are_their_own"),
     "switches": (
-        UNBUILT,
         "Guests that call modules, whose modules call and return, are stopped, go on and are evicted.",
         "modules_are_called_stopped_resumed_and_evicted"),
     "zeroing": (
-        UNBUILT,
         "Guests one of whose modules is zeroed before an event: while it rests nobody can tell.",
         # a test for each guest, since each has many runs
         {"evicted": "a_zeroed_module_is_evicted_as_others_are",
@@ -40,7 +35,6 @@ FOLDERS = {
          "waiting": "a_waiting_module_is_zeroed",
          "wrong_resumption": "a_zeroed_module_keeps_its_pc_and_mode"}),
     "harts": (
-        UNBUILT,
         "Guests of several harts, with devices, each run by a script.",
         {"devices": "devices_reach_the_pages_that_nobody_owns",
          "four_harts": "four_harts_take_turns",
@@ -164,14 +158,10 @@ def module(name):
     words, tables = parts(image)
     texts = listed(image[:4 * len(words)])
     lines = Machine(image, ram).run()
-    is_built = lines[-1] != "unbuilt"
-    uses = (["bytes_of_code", "expect_image", "push_pairs"] if tables else
-            ["expect_code"] if is_built else ["bytes_of_code", "run_image"])
+    uses = ["bytes_of_code", "expect_image", "push_pairs"] if tables else ["expect_code"]
     made = "Made by `tests/make` from its assembly; the trace is that of `tests/interpreter.py`."
     out = comment("//!", about + made) + [""]
     out += [f"use super::{{{', '.join(uses)}}};" if len(uses) > 1 else f"use super::{uses[0]};"]
-    if not is_built:
-        out += ["use bn_types::Status;"]
     out += ["", f"const CODE: [u32; {len(words)}] = ["]
     out += [f"    0x{word:08x}, // {text}" for word, text in zip(words, texts)] + ["];", ""]
     if tables:
@@ -183,12 +173,8 @@ def module(name):
         out += ['    let mut image = bytes_of_code(rt.alloc(), &CODE).expect(&rt, "memory");',
                 '    push_pairs(&mut image, &TABLES).expect(&rt, "memory");',
                 f"    expect_image(&rt, rt.alloc(), {ram}, &image, &LINES);"]
-    elif is_built:
-        out += [f"    expect_code(&rt, rt.alloc(), {ram}, &CODE, &LINES);"]
     else:
-        out += ['    let image = bytes_of_code(rt.alloc(), &CODE).expect(&rt, "memory");',
-                f"    let status = run_image(&rt, rt.alloc(), {ram}, 100_000, &image, &LINES);",
-                "    assert_eq!(rt; status, Status::Unbuilt);"]
+        out += [f"    expect_code(&rt, rt.alloc(), {ram}, &CODE, &LINES);"]
     return "\n".join(out + ["}", ""])
 
 
@@ -276,16 +262,15 @@ def zeroed_listing(name, image, lines, runs):
 
 
 def trace(name, image, zeroed=None):
-    folder = name.split("/")[0]
     blind = zeroed and (zeroed.module, zeroed.event)
-    machine = Machine(image, settings(name)[1], FOLDERS[folder][0], harts(name))
+    machine = Machine(image, settings(name)[1], harts(name))
     return machine.run(steps(name), blind, "\n".join(script(name)))
 
 
 def folder_module(folder):
     """The test module of a folder of guests."""
     found = [listing(name) for name in names(folder)]
-    _, about, test = FOLDERS[folder]
+    about, test = FOLDERS[folder]
     out = [f"//! {about}",
            "//! Made by `tests/make` from their assembly; the traces are those of `tests/interpreter.py`.",
            ""]
