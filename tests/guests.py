@@ -22,12 +22,24 @@ FOLDERS = {
     "switches": (
         "Guests that call modules, whose modules call and return, are stopped, go on and are evicted.",
         "modules_are_called_stopped_resumed_and_evicted"),
+    "storing": (
+        "Guests whose modules keep words by their identities, without a store beside the machine.",
+        {"all_words": "a_module_keeps_32_words",
+         "full": "a_module_of_a_65th_identity_keeps_no_words",
+         "index_too_large": "a_word_that_is_not_there_is_not_stored",
+         "launched_again": "a_module_that_is_launched_again_has_its_words",
+         "outside": "code_outside_the_modules_keeps_no_words",
+         "registers": "words_go_by_any_registers",
+         "stopped": "a_module_that_is_stopped_stores_when_it_goes_on",
+         "two_modules": "modules_do_not_reach_the_words_of_others",
+         "user_mode": "a_module_of_mode_u_keeps_words"}),
     "zeroing": (
         "Guests one of whose modules is zeroed before an event: while it rests nobody can tell.",
         # a test for each guest, since each has many runs
         {"evicted": "a_zeroed_module_is_evicted_as_others_are",
          "idle": "a_module_is_zeroed_between_its_calls",
          "limit": "zeroing_beside_the_limit_is_not_told",
+         "kept_words": "a_zeroed_module_keeps_its_words",
          "offered": "shared_pages_are_not_zeroed",
          "own_root": "a_zeroed_page_is_no_root",
          "own_tables": "a_zeroed_page_is_no_table",
@@ -44,6 +56,7 @@ FOLDERS = {
          "resumed_elsewhere": "any_hart_resumes_a_module",
          "resumed_once": "of_two_harts_at_a_stopped_module_one_resumes_it",
          "starts": "a_hart_is_started_as_at_boot",
+         "stored_elsewhere": "words_are_those_of_the_module_on_any_hart",
          "two_modules": "a_module_that_runs_elsewhere_is_busy"}),
 }
 # as many events as a guest of a folder may have
@@ -288,14 +301,22 @@ def folder_module(folder):
 
 def tests_of_their_own(folder, found, tests):
     """The guests of a folder, and a test for each."""
-    is_scripted = script(names(folder)[0])
-    uses = (["scripted_guest::{NO_RUNS, ScriptedGuest, expect_scripted_guest}",
-             "zeroed_guest::{NO_LINES, Zeroed}"] if is_scripted else
-            ["zeroed_guest::{NO_LINES, Zeroed, ZeroedGuest, expect_zeroed_guest}"])
-    expect = "expect_scripted_guest" if is_scripted else "expect_zeroed_guest"
-    out = ["use super::guest::Guest;"] + [f"use super::{use};" for use in uses] + [""]
+    first = names(folder)[0]
+    if script(first):
+        uses = ["guest::Guest", "scripted_guest::{NO_RUNS, ScriptedGuest, expect_scripted_guest}",
+                "zeroed_guest::{NO_LINES, Zeroed}"]
+        expect = "expect_scripted_guest"
+    elif zeroings(first):
+        uses = ["guest::Guest", "zeroed_guest::{NO_LINES, Zeroed, ZeroedGuest, expect_zeroed_guest}"]
+        expect = "expect_zeroed_guest"
+    else:
+        uses, expect = ["guest::{Guest, expect_guest}"], "expect_guest"
+    out = [f"use super::{use};" for use in uses] + [""]
     for name, (arrays, entry) in zip(names(folder), found):
         stem = name.split("/")[1]
+        if entry[0].startswith(" "):
+            # it stands in no larger one, and in no table
+            entry = [f"const {stem.upper()}: Guest<'static> = Guest {{", *entry[1:-1], "};", ""]
         out += arrays + entry
         out += ["#[test]", f"fn {tests[stem]}(rt: HostRuntime) {{",
                 f"    {expect}(&rt, rt.alloc(), &{stem.upper()});", "}", ""]
