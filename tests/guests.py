@@ -307,7 +307,8 @@ def tests_of_their_own(folder, found, tests):
                 "zeroed_guest::{NO_LINES, Zeroed}"]
         expect = "expect_scripted_guest"
     elif zeroings(first):
-        uses = ["guest::Guest", "zeroed_guest::{NO_LINES, Zeroed, ZeroedGuest, expect_zeroed_guest}"]
+        uses = ["guest::Guest",
+                "zeroed_guest::{NO_LINES, Zeroed, ZeroedGuest, expect_zeroed_guest}"]
         expect = "expect_zeroed_guest"
     else:
         uses, expect = ["guest::{Guest, expect_guest}"], "expect_guest"
