@@ -1,5 +1,5 @@
-/* Lays a kernel out like module.ld, with two pages for a process besides: its code, which is what is
-   compiled from files whose names end in _process.c, and its data, with its stack behind them. */
+/* Lays a kernel out like module.ld, with two pages for a process besides: its code, which is what
+   is compiled from files whose names end in _process.c, and its data with its stack. */
 OUTPUT_ARCH(riscv)
 ENTRY(_start)
 
@@ -11,7 +11,11 @@ SECTIONS
     .rodata : { EXCLUDE_FILE(*_process.o *_module.o) *(.rodata* .srodata*) }
     .data : { EXCLUDE_FILE(*_process.o *_module.o) *(.data* .sdata*) }
     .process_code : ALIGN(4096) { *_process.o(.text* .rodata* .srodata*) . = ALIGN(4096); }
-    .process_data : ALIGN(4096) { *_process.o(.data* .sdata* .bss* .sbss*) . += 1024; . = ALIGN(4096); }
+    .process_data : ALIGN(4096) {
+        *_process.o(.data* .sdata* .bss* .sbss*)
+        . += 1024;
+        . = ALIGN(4096);
+    }
     .module_code : ALIGN(4096) { *_module.o(.text* .rodata* .srodata*) . = ALIGN(4096); }
     .module_data : ALIGN(4096) { *_module.o(.data* .sdata* .bss* .sbss*) . = ALIGN(4096); }
     ASSERT(SIZEOF(.process_code) == 4096, "the process's code takes a page")
