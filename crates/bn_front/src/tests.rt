@@ -29,6 +29,7 @@ mod roots;
 mod scripted_guest;
 mod scripts;
 mod secure_words;
+mod storing;
 mod superpages;
 mod switches;
 mod top;
