@@ -3,9 +3,10 @@
 use Rattle.std.specs.Prelude.{ℕ, List, ◌∷◌, [], ◌++◌, pos, flat_map, replicate}
 use Rattle.std.specs.List.{range_with_len}
 use Rattle.bn_types.specs.declared.insn.Insn.{Insn}
-use Rattle.bn_types.specs.declared.insn.Insn.TheVariants.{Branch, Ecall}
+use Rattle.bn_types.specs.declared.insn.Insn.TheVariants.{Bastion, Branch, Ecall}
+use Rattle.bn_types.specs.declared.secure.Secure.TheVariants.{Ret}
 use Rattle.bn_types.specs.declared.test.Test.TheVariants.{Ne}
-use Rattle.bn_model.specs.Generating.{Draws, ◌>>=◌, addi, below, command_line, commands_drawn}
+use Rattle.bn_model.specs.Generating.{Draws, ◌>>=◌, addi, auipc, below, ld, sd, command_line, commands_drawn}
 use Rattle.bn_model.specs.Generating.{device_by, insn_bytes, kernel_launch, kernel_with, minus}
 use Rattle.bn_model.specs.Generating.{module_code, operation_by, module_segment}
 use Rattle.bn_model.specs.Generating.{page_with, times, x}
@@ -34,6 +35,14 @@ unfoldable pub command_lines : List Command → List ℕ
 command_lines commands = flat_map command_line commands
 
 -- ---- the modules
+
+-- a module gets its data
+abbrev pub module_start : List Insn
+module_start = auipc 5 1 ∷ ld 6 5 0 ∷ []
+
+-- it keeps the sum, and returns it
+abbrev pub module_end : List Insn
+module_end = sd 6 5 0 ∷ addi 10 6 (pos 0) ∷ Bastion Ret ∷ []
 
 unfoldable pub operation : Draws Insn
 operation = below 4 >>= operation_by

@@ -7,7 +7,7 @@ use bn_types::Insn;
 use rv_insn::encode;
 use std::alloc::AllocError;
 
-const PAGE_BYTES: usize = 4096;
+pub const PAGE_BYTES: usize = 4096;
 
 /// Appends the words of instructions, little endian.
 #[tactic(auto, unfolding(crate::specs::Parts::listed))]

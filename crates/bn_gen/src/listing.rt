@@ -6,9 +6,13 @@ ghost use Rattle.bn_model.specs.InsnRanges.{FitsBits, IsInRange};
 use bn_types::{CsrFrom, CsrOp, ImmOp, Insn, Reg, Width};
 
 pub const SSTATUS: u16 = 0x100;
+
 pub const SIE: u16 = 0x104;
+
 pub const STVEC: u16 = 0x105;
+
 pub const SSCRATCH: u16 = 0x140;
+
 pub const TIME: u16 = 0xc01;
 
 /// The address of a place so many pages ahead.

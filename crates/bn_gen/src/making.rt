@@ -4,7 +4,7 @@ ghost use Rattle.bn_model.specs.Generating as flat;
 ghost use Rattle.bn_gen.specs.Parts as parts;
 
 use crate::Made;
-use crate::bytes::{fill_page, put_zeros};
+use crate::bytes::{PAGE_BYTES, fill_page, put_zeros};
 use crate::kernel::{put_handler, put_kernel};
 use crate::modules::{put_modules, put_segments};
 use crate::script::put_rounds;
@@ -12,7 +12,9 @@ use crate::stream::Stream;
 use bn_types::NoMemory;
 use std::alloc::{AllocError, Global};
 
-/// Makes the image and the script of a number. They are the same whenever they are made.
+/// Makes the image and the script of a number, the same whenever they are made. The image is raw,
+/// of 32 pages of 4,096 bytes, for a machine of one hart and 64 pages of RAM. NoMemory is want of
+/// memory.
 pub fn make(alloc: Global, number: u64) -> Result<Made, NoMemory>
     ensures image { IfOk result (λ made. made.image.items ≡ (flat.made_of number).image) }
     ensures script { IfOk result (λ made. made.script.items
@@ -35,7 +37,7 @@ fn made_of(alloc: Global, number: u64) -> Result<Made, AllocError>
     put_modules(alloc, &mut modules, &mut stream)?;
     let mut image = kernel_page(alloc, &mut stream)?;
     put_handler_page(alloc, &mut image)?;
-    put_zeros(&mut image, 6 * 4096)?;
+    put_zeros(&mut image, 6 * PAGE_BYTES)?;
     put_segments(alloc, &mut image)?;
     image.extend_from_slice(modules.as_slice())?;
     let mut script = Vec::new(alloc);

@@ -4,7 +4,7 @@ ghost use Rattle.bn_model.specs.Generating as flat;
 ghost use Rattle.bn_model.specs.InsnRanges.{IsInRange};
 ghost use Rattle.bn_gen.specs.Parts as parts;
 
-use crate::bytes::{fill_page, put, put_zeros};
+use crate::bytes::{PAGE_BYTES, fill_page, put, put_zeros};
 use crate::listing::{addi, auipc, ld, sd};
 use crate::stream::Stream;
 use arrayvec::ArrayVec;
@@ -43,11 +43,7 @@ pub fn put_modules(
 
 /// Appends a code page and a data page, which is of zeros.
 #[tactic(auto, unfolding(crate::specs::Parts::module_pages))]
-fn put_module(
-    alloc: Global,
-    pages: &mut Vec<u8>,
-    stream: &mut Stream,
-) -> Result<(), AllocError>
+fn put_module(alloc: Global, pages: &mut Vec<u8>, stream: &mut Stream) -> Result<(), AllocError>
     ensures bytes { OnOk result (pages.new.items
         ≡ pages.old.items ++ parts.module_pages (flat.module_code stream.old).value) }
     ensures state { OnOk result (stream.new ≡ (flat.module_code stream.old).state) }
@@ -56,7 +52,7 @@ fn put_module(
     put_code(&mut page, stream)?;
     fill_page(&mut page)?;
     pages.extend_from_slice(page.as_slice())?;
-    put_zeros(pages, 4096)
+    put_zeros(pages, PAGE_BYTES)
 }
 
 fn put_code(code: &mut Vec<u8>, stream: &mut Stream) -> Result<(), AllocError>

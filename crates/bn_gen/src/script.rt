@@ -25,7 +25,7 @@ pub fn put_rounds(script: &mut Vec<u8>, stream: &mut Stream) -> Result<(), Alloc
     Ok(())
 }
 
-#[tactic(auto, unfolding(bn_model::specs::Generating::commands_drawn, crate::specs::Parts::command_lines))]
+#[tactic(auto, unfolding(bn_model::specs::Generating::commands_drawn, crate::specs::Parts::command_lines, crate::specs::Parts::device))]
 fn put_round(script: &mut Vec<u8>, stream: &mut Stream) -> Result<(), AllocError>
     ensures lines { OnOk result (script.new.items
         ≡ script.old.items ++ parts.command_lines (flat.commands_drawn stream.old).value) }
@@ -119,12 +119,7 @@ fn put_key(script: &mut Vec<u8>, byte: u8) -> Result<(), AllocError>
     script.extend_from_slice(b"\n")
 }
 
-fn put_poke(
-    script: &mut Vec<u8>,
-    page: Gpn,
-    offset: u16,
-    byte: u8,
-) -> Result<(), AllocError>
+fn put_poke(script: &mut Vec<u8>, page: Gpn, offset: u16, byte: u8) -> Result<(), AllocError>
     ensures { OnOk result (script.new.items
         ≡ script.old.items ++ flat.command_line (Command.Poke page offset byte)) }
 {

@@ -42,8 +42,14 @@ fn has_digest(bytes: &[u8], wanted: &str) -> bool {
 fn another_generator_makes_the_same(rt: HostRuntime) -> Result<(), Fail> {
     for (number, image, script) in MADE {
         let made = make(rt.alloc(), number)?;
-        assert!(rt; has_digest(made.image.as_slice(), image), "the image of {number}");
-        assert!(rt; has_digest(made.script.as_slice(), script), "the script of {number}");
+        assert!(rt;
+            has_digest(made.image.as_slice(), image),
+            "the image of {number}"
+        );
+        assert!(rt;
+            has_digest(made.script.as_slice(), script),
+            "the script of {number}"
+        );
     }
     Ok(())
 }

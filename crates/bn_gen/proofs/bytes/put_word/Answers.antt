@@ -15,5 +15,5 @@ returns c =
     c.encode.ensures.only (word_of insn) (word_of-fits insn c.requires)
     (Encodes-word_of insn c.requires) in
     subst (λ (w : ℕ). OnOk c.extend_from_slice.result
-        (c.extend_from_slice.new.self.items ≡ c.args.bytes.now.items ++ to_le_bytes w32 w)) word
-        (search rules)
+    (c.extend_from_slice.new.self.items ≡ c.args.bytes.now.items ++ to_le_bytes w32 w)) word
+    (search rules)
