@@ -1,6 +1,6 @@
 -- The parts of what is generated, one more at a time, and what they come to.
-use Rattle.std.proofs.Common.{◌≡◌, ℕ, ◌+◌, ◌-◌, ◌*◌, ◌<◌, ◌∙◌, ap₂, List, [], ◌∷◌, ◌++◌, ap, refl, suc}
-use Rattle.std.proofs.Common.{sym, append_assoc, append-nil, arith, ◌≤◌}
+use Rattle.std.proofs.Common.{◌≡◌, ℕ, ◌+◌, ◌-◌, ◌*◌, ◌<◌, ◌∙◌, List, [], ◌∷◌, ◌++◌, ap, ap₂}
+use Rattle.std.proofs.Common.{refl, suc, sym, append_assoc, append-nil, arith, ◌≤◌}
 use Rattle.std.specs.Prelude.{flat_map}
 use Rattle.std.proofs.lemmas.List.Concat.{flat_map-append}
 use Rattle.bn_types.specs.declared.insn.Insn.{Insn}

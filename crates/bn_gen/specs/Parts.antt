@@ -6,7 +6,8 @@ use Rattle.bn_types.specs.declared.insn.Insn.{Insn}
 use Rattle.bn_types.specs.declared.insn.Insn.TheVariants.{Bastion, Branch, Ecall}
 use Rattle.bn_types.specs.declared.secure.Secure.TheVariants.{Ret}
 use Rattle.bn_types.specs.declared.test.Test.TheVariants.{Ne}
-use Rattle.bn_model.specs.Generating.{Draws, ◌>>=◌, addi, auipc, below, ld, sd, command_line, commands_drawn}
+use Rattle.bn_model.specs.Generating.{Draws, ◌>>=◌, addi, auipc, below, command_line}
+use Rattle.bn_model.specs.Generating.{commands_drawn, ld, sd}
 use Rattle.bn_model.specs.Generating.{device_by, insn_bytes, kernel_launch, kernel_with, minus}
 use Rattle.bn_model.specs.Generating.{module_code, operation_by, module_segment}
 use Rattle.bn_model.specs.Generating.{page_with, times, x}

@@ -25,7 +25,6 @@ pub fn put_rounds(script: &mut Vec<u8>, stream: &mut Stream) -> Result<(), Alloc
     Ok(())
 }
 
-#[tactic(auto, unfolding(bn_model::specs::Generating::commands_drawn, crate::specs::Parts::command_lines, crate::specs::Parts::device))]
 fn put_round(script: &mut Vec<u8>, stream: &mut Stream) -> Result<(), AllocError>
     ensures lines { OnOk result (script.new.items
         ≡ script.old.items ++ parts.command_lines (flat.commands_drawn stream.old).value) }

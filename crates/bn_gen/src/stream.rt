@@ -26,17 +26,25 @@ impl Stream {
     }
 
     /// Draws a number below a limit.
-    #[tactic(auto, unfolding(bn_model::specs::Generating::below, bn_model::specs::Generating::next_state))]
+    #[tactic(auto, unfolding(bn_model::specs::Generating::below))]
     pub fn below(&mut self, limit: u64) -> u64
         requires { 0 < limit }
         ensures value { result ≡ (flat.below limit self.old).value }
         ensures state { self.new ≡ (flat.below limit self.old).state }
         ensures small { result < limit }
     {
+        self.go_on();
+        (self.state >> 33) % limit
+    }
+
+    /// A linear congruence modulo 2^64 (Knuth's MMIX).
+    #[tactic(auto, unfolding(bn_model::specs::Generating::next_state))]
+    fn go_on(&mut self)
+        ensures { self.new ≡ flat.next_state self.old }
+    {
         self.state = self
             .state
             .wrapping_mul(6_364_136_223_846_793_005)
             .wrapping_add(1_442_695_040_888_963_407);
-        (self.state >> 33) % limit
     }
 }
