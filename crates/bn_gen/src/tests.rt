@@ -3,7 +3,7 @@ use sha2::{Digest, Sha256};
 use std::test::Fail;
 
 // Numbers, and the SHA-256 of the image and of the script of each, by tests/generator.py.
-static MADE: [(u64, &str, &str); 4] = [
+const MADE: [(u64, &str, &str); 4] = [
     (
         0,
         "e8424cfdf6433ca7516eb89a8e35aa3442946f7f9c7de6550d74400cab9e6d40",
