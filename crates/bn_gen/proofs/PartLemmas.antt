@@ -247,7 +247,7 @@ round_lines-is (commands ∷ drawn) =
     flat_map-append command_line commands (flat_map (λ some. some) drawn)
     ∙ ap (λ (lines : List ℕ). flat_map command_line commands ++ lines) (round_lines-is drawn)
 
-made_of-is : (number : ℕ) → made_of number ≡ made_with (modules 8 number).value
+pub made_of-is : (number : ℕ) → made_of number ≡ made_with (modules 8 number).value
     (kernel_calls 0 64 (modules 8 number).state).value
     (rounds 64 (kernel_calls 0 64 (modules 8 number).state).state).value
 unfolding made_of made_drawn modules rounds

@@ -1,6 +1,7 @@
 //! The whole that is generated.
 ghost use Rattle.std.specs.Prelude.{◌≡◌, ◌++◌, ◌*◌, IfOk, OnOk};
 ghost use Rattle.bn_model.specs.Generating as flat;
+ghost use Rattle.bn_model.specs.Scripts.{script_in, script_of};
 ghost use Rattle.bn_gen.specs.Parts as parts;
 
 use crate::Made;
@@ -31,6 +32,8 @@ fn made_of(alloc: Global, number: u64) -> Result<Made, AllocError>
     ensures image { IfOk result (λ made. made.image.items ≡ (flat.made_of number).image) }
     ensures script { IfOk result (λ made. made.script.items
         ≡ flat.script_text (flat.made_of number)) }
+    ensures read { IfOk result (λ made. script_in 1 made.script.items
+        ≡ Ok (script_of 1 (flat.made_of number).commands)) }
 {
     let mut stream = Stream::of(number);
     let mut modules = Vec::new(alloc);

@@ -1,4 +1,7 @@
-use Rattle.std.proofs.Common.{rules}
+use Rattle.std.proofs.Common.{◌≡◌, ℕ, List, Ok, rules, subst, sym}
+use Rattle.bn_model.specs.Generating as flat
+use Rattle.bn_model.specs.Scripts.{script_in, script_of}
+use Rattle.bn_gen.proofs.ScriptReading.{script_read}
 use Rattle.bn_gen.proofs.PartLemmas.{made_of-image, made_of-script}
 use Rattle.bn_gen.proofs.making.made_of.Goals as goal
 
@@ -7,3 +10,7 @@ returns-clause-image c = rw made_of-image (search rules)
 
 pub returns-clause-script : goal.returns-clause-script
 returns-clause-script c = rw made_of-script (search rules)
+
+pub returns-clause-read : goal.returns-clause-read
+returns-clause-read c = subst (λ (text : List ℕ). script_in 1 text ≡ Ok (script_of 1 (flat.made_of c.args.number).commands))
+        (sym (returns-clause-script c)) (script_read c.args.number)
