@@ -1,3 +1,4 @@
+pub mod ImageLoading
 pub mod PartLemmas
 pub mod ScriptReading
 pub mod WordSizes

@@ -47,7 +47,7 @@ listed-append a b = flat_map-append word_bytes a b
 
 -- ---- the operations of a module
 
-operations_are : (count next state : ℕ) → count ≡ suc next
+pub operations_are : (count next state : ℕ) → count ≡ suc next
     → operations count state ≡ record {
       value = (operation state).value ∷ (operations next (operation state).state).value;
       state = (operations next (operation state).state).state;
@@ -80,7 +80,7 @@ no_operations-state count state e = rw e refl
 
 -- ---- the modules
 
-modules_are : (count next state : ℕ) → count ≡ suc next → modules count state ≡ record {
+pub modules_are : (count next state : ℕ) → count ≡ suc next → modules count state ≡ record {
   value = (module_code state).value ∷ (modules next (module_code state).state).value;
   state = (modules next (module_code state).state).state;
 }
@@ -133,7 +133,7 @@ pub no_launches : (i count : ℕ) → count ≡ 0 → listed (launches i count) 
 unfolding launches listed
 no_launches i count e = rw e refl
 
-calls_are : (j count next state : ℕ) → count ≡ suc next → kernel_calls j count state ≡ record {
+pub calls_are : (j count next state : ℕ) → count ≡ suc next → kernel_calls j count state ≡ record {
   value = (kernel_call j state).value
       ++ (kernel_calls (j + 1) next (kernel_call j state).state).value;
   state = (kernel_calls (j + 1) next (kernel_call j state).state).state;
@@ -197,7 +197,7 @@ no_rounds-state count state e = rw e refl
 
 -- ---- the definitions are of these parts
 
-module_code-is : (state : ℕ) → module_code state ≡ record {
+pub module_code-is : (state : ℕ) → module_code state ≡ record {
   value = module_with (operations 16 state).value;
   state = (operations 16 state).state;
 }
@@ -216,7 +216,7 @@ module_code-value state =
 pub module_code-state : (state : ℕ) → (module_code state).state ≡ (operations 16 state).state
 module_code-state state = ap (λ (d : Drawn (List Insn)). d.state) (module_code-is state)
 
-kernel-is : (calls : List Insn) → kernel calls
+pub kernel-is : (calls : List Insn) → kernel calls
     ≡ kernel_start ++ launches 0 8 ++ (kernel_count ++ calls) ++ kernel_end
 unfolding kernel launches launch
 kernel-is calls = refl

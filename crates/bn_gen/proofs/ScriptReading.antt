@@ -1,7 +1,7 @@
 -- The script that is made is read back as its commands.
 use Rattle.std.proofs.Common.{◌≡◌, ℕ, zero, suc, ◌+◌, ◌*◌, ◌/◌, ◌%◌, ◌^◌, ◌<◌, ◌≤◌, ◌==◌, ◌&&◌}
 use Rattle.std.proofs.Common.{◌∙◌, Bool, true, false, not, List, [], ◌∷◌, ◌++◌, length, get_or, map}
-use Rattle.std.proofs.Common.{Option, Some, Ok, nat_le, nat_lt, ap, append_assoc, append-nil, arith}
+use Rattle.std.proofs.Common.{Option, Some, Ok, nat_le, nat_lt, ap, append_assoc, arith}
 use Rattle.std.proofs.Common.{length-append, refl, subst, sym, lit<}
 use Rattle.std.proofs.lemmas.Bool.{false≢true}
 use Rattle.std.proofs.lemmas.Bool.Decides.{nat_tests}

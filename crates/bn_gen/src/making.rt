@@ -1,7 +1,9 @@
 //! The whole that is generated.
-ghost use Rattle.std.specs.Prelude.{◌≡◌, ◌++◌, ◌*◌, IfOk, OnOk};
+ghost use Rattle.std.specs.Prelude.{◌≡◌, ◌++◌, ◌*◌, IfOk, OnOk, length};
 ghost use Rattle.bn_model.specs.Generating as flat;
 ghost use Rattle.bn_model.specs.Scripts.{script_in, script_of};
+ghost use Rattle.bn_model.specs.Summaries.{raw_image};
+ghost use Rattle.bn_model.specs.WholeRuns.{image_in};
 ghost use Rattle.bn_gen.specs.Parts as parts;
 
 use crate::Made;
@@ -20,6 +22,11 @@ pub fn make(alloc: Global, number: u64) -> Result<Made, NoMemory>
     ensures image { IfOk result (λ made. made.image.items ≡ (flat.made_of number).image) }
     ensures script { IfOk result (λ made. made.script.items
         ≡ flat.script_text (flat.made_of number)) }
+    ensures read { IfOk result (λ made. script_in 1 made.script.items
+        ≡ Ok (script_of 1 (flat.made_of number).commands)) }
+    ensures size { IfOk result (λ made. length made.image.items ≡ 131072) }
+    ensures loaded { IfOk result (λ made. image_in (64 * 4096) (Some made.image.items)
+        ≡ Ok (raw_image (64 * 4096) (flat.made_of number).image)) }
 {
     match made_of(alloc, number) {
         Ok(made) => Ok(made),
@@ -34,6 +41,9 @@ fn made_of(alloc: Global, number: u64) -> Result<Made, AllocError>
         ≡ flat.script_text (flat.made_of number)) }
     ensures read { IfOk result (λ made. script_in 1 made.script.items
         ≡ Ok (script_of 1 (flat.made_of number).commands)) }
+    ensures size { IfOk result (λ made. length made.image.items ≡ 131072) }
+    ensures loaded { IfOk result (λ made. image_in (64 * 4096) (Some made.image.items)
+        ≡ Ok (raw_image (64 * 4096) (flat.made_of number).image)) }
 {
     let mut stream = Stream::of(number);
     let mut modules = Vec::new(alloc);
