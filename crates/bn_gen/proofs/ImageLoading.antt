@@ -7,7 +7,8 @@ use Rattle.std.proofs.lemmas.List.{length-replicate}
 use Rattle.std.specs.List.{starts_with}
 use Rattle.bn_types.specs.declared.insn.Insn.{Insn}
 use Rattle.bn_model.specs.Assembling.{word_of}
-use Rattle.bn_model.specs.Generating.{Drawn, handler, kernel_call, kernel_calls, kernel_start, made_of}
+use Rattle.bn_model.specs.Generating.{Drawn, handler, kernel_call, kernel_calls, kernel_start}
+use Rattle.bn_model.specs.Generating.{made_of}
 use Rattle.bn_model.specs.Generating.{module_code, module_segment}
 use Rattle.bn_model.specs.Images.{elf_magic, image_of}
 use Rattle.bn_model.specs.Segments.{entry_bytes, header_bytes, page_bytes, spelling_of_segment}
@@ -16,7 +17,8 @@ use Rattle.bn_model.specs.WholeRuns.{image_in}
 use Rattle.bn_gen.proofs.PartLemmas.{kernel-is, made_of-image, module_code-is}
 use Rattle.bn_gen.proofs.PartLemmas.{operations_are}
 use Rattle.bn_gen.specs.Parts.{filled, kernel, kernel_count, kernel_end, launch, launches, listed}
-use Rattle.bn_gen.specs.Parts.{module_end, module_pages, module_start, modules, operation, operations}
+use Rattle.bn_gen.specs.Parts.{module_end, module_pages, module_start, modules, operation}
+use Rattle.bn_gen.specs.Parts.{operations}
 use Rattle.bn_gen.specs.Parts.{pages_of, segment_page, segment_pages, word_bytes, zeros}
 
 -- ---- how long its parts are

@@ -5,14 +5,17 @@
 
 pub use made::Made;
 pub use making::make;
+pub use tally::Tally;
 
 mod bytes;
 mod kernel;
+mod kinds;
 mod listing;
 mod made;
 mod making;
 mod modules;
 mod script;
 mod stream;
+mod tally;
 #[cfg(test)]
 mod tests;

@@ -1,6 +1,5 @@
-use Rattle.std.proofs.Common.{◌≡◌, ◌*◌, ◌∙◌, ℕ, List, Ok, Some, ap, length, rules, subst, sym}
-use Rattle.bn_model.specs.Generating as flat
-use Rattle.bn_model.specs.Scripts.{script_in, script_of}
+use Rattle.std.proofs.Common.{◌≡◌, ◌*◌, ◌∙◌, ℕ, List, Some, ap, length, rules}
+use Rattle.bn_model.specs.Scripts.{script_in}
 use Rattle.bn_gen.proofs.ScriptReading.{script_read}
 use Rattle.bn_model.specs.WholeRuns.{image_in}
 use Rattle.bn_gen.proofs.ImageLoading.{image-length, image_loaded}
@@ -14,8 +13,8 @@ pub returns-clause-script : goal.returns-clause-script
 returns-clause-script c = rw made_of-script (search rules)
 
 pub returns-clause-read : goal.returns-clause-read
-returns-clause-read c = subst (λ (text : List ℕ). script_in 1 text ≡ Ok (script_of 1 (flat.made_of c.args.number).commands))
-    (sym (returns-clause-script c)) (script_read c.args.number)
+returns-clause-read c =
+    ap (script_in 1) (returns-clause-script c) ∙ script_read c.args.number
 
 pub returns-clause-size : goal.returns-clause-size
 returns-clause-size c = ap length (returns-clause-image c) ∙ image-length c.args.number
