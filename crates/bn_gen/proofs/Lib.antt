@@ -1,4 +1,5 @@
 pub mod ImageLoading
 pub mod PartLemmas
 pub mod ScriptReading
+pub mod TallyLemmas
 pub mod WordSizes

@@ -1,0 +1,57 @@
+-- A tally with one line more.
+use Rattle.std.proofs.Common.{◌≡◌, ℕ, ◌+◌, ◌<◌, ◌∙◌, Bool, true, false, List, [], ◌∷◌, ◌++◌, ap}
+use Rattle.std.proofs.Common.{arith, cond, get_or, length, map, refl, subst, sym}
+use Rattle.std.proofs.lemmas.Grind.{get_or_default_zero}
+use Rattle.std.proofs.lemmas.List.{ext_get_or}
+use Rattle.std.proofs.lemmas.List.Sums.{count_by-le-length, sum_by-append}
+use Rattle.std.proofs.Math.ListN.{get_or-map}
+use Rattle.std.specs.List.{count_by}
+use Rattle.std.specs.Str.{bytes_eq}
+use Rattle.bn_types.specs.declared.line.Line.{Line}
+use Rattle.bn_model.specs.declared.head.Head.TheVariants.{Out}
+use Rattle.bn_model.specs.LineShapes.{word_of}
+use Rattle.bn_model.specs.Summaries.{event_heads, head_of, is_of}
+use Rattle.bn_gen.specs.Tallies.{CountsWord, after_one, tally_of}
+
+length-tally_of : (told : List Line) → length (tally_of told) ≡ 18
+unfolding tally_of
+length-tally_of told = refl
+
+count_at : (told : List Line) (k : ℕ) → k < 18
+    → get_or (tally_of told) k 0 ≡ count_by (is_of (get_or event_heads k Out)) told
+unfolding tally_of
+count_at told k within =
+    sym (get_or_default_zero (tally_of told) k (count_by (is_of Out) told) within)
+    ∙ get_or-map (λ kind. count_by (is_of kind) told) event_heads k Out
+
+one_line : (is_told : Bool) (count : ℕ) → count + (0 + cond is_told 1 0) ≡ after_one is_told count
+one_line true count = refl
+one_line false count = omega arith
+
+count_more : (told : List Line) (line : Line) (k : ℕ) → k < 18
+    → get_or (tally_of (told ++ (line ∷ []))) k 0
+    ≡ after_one (bytes_eq (word_of (get_or event_heads k Out)) (word_of (head_of line)))
+    (get_or (tally_of told) k 0)
+count_more told line k within =
+    let kind = get_or event_heads k Out in
+    count_at (told ++ (line ∷ [])) k within
+    ∙ sum_by-append (λ (l : Line). cond (is_of kind l) 1 0) told (line ∷ [])
+    ∙ one_line (is_of kind line) (count_by (is_of kind) told)
+    ∙ ap (after_one (is_of kind line)) (sym (count_at told k within))
+
+-- each count is one more where the line's first word is that of its kind
+pub tally_more : (word old new : List ℕ) → CountsWord word old new → (told : List Line)
+    (line : Line) → word ≡ word_of (head_of line) → old ≡ tally_of told
+    → new ≡ tally_of (told ++ (line ∷ []))
+tally_more word old new counts told line is was =
+    ext_get_or 0 new (tally_of (told ++ (line ∷ [])))
+    (counts.long ∙ sym (length-tally_of (told ++ (line ∷ []))))
+    (λ k h.
+    let within : k < 18 = subst (λ (n : ℕ). k < n) counts.long h in
+    counts.each k within
+    ∙ ap (λ (w : List ℕ). after_one (bytes_eq (word_of (get_or event_heads k Out)) w)
+    (get_or old k 0)) is
+    ∙ ap (λ (before : List ℕ). after_one
+    (bytes_eq (word_of (get_or event_heads k Out)) (word_of (head_of line)))
+    (get_or before k 0)) was
+    ∙ sym (count_more told line k within))
