@@ -1,17 +1,24 @@
 -- A tally with one line more.
 use Rattle.std.proofs.Common.{◌≡◌, ℕ, ◌+◌, ◌<◌, ◌∙◌, Bool, true, false, List, [], ◌∷◌, ◌++◌, ap}
-use Rattle.std.proofs.Common.{arith, cond, get_or, length, map, refl, subst, sym}
+use Rattle.bn_types.specs.declared.digest.Digest.{Digest}
+use Rattle.bn_types.specs.declared.finish.Finish.{Finish}
+use Rattle.std.proofs.Common.{arith, cond, suc, get_or, length, refl, subst, sym}
 use Rattle.std.proofs.lemmas.Grind.{get_or_default_zero}
 use Rattle.std.proofs.lemmas.List.{ext_get_or}
-use Rattle.std.proofs.lemmas.List.Sums.{count_by-le-length, sum_by-append}
+use Rattle.std.proofs.lemmas.List.Sums.{sum_by-append}
 use Rattle.std.proofs.Math.ListN.{get_or-map}
 use Rattle.std.specs.List.{count_by}
 use Rattle.std.specs.Str.{bytes_eq}
 use Rattle.bn_types.specs.declared.line.Line.{Line}
 use Rattle.bn_model.specs.declared.head.Head.TheVariants.{Out}
 use Rattle.bn_model.specs.LineShapes.{word_of}
-use Rattle.bn_model.specs.Summaries.{event_heads, head_of, is_of}
-use Rattle.bn_gen.specs.Tallies.{CountsWord, after_one, tally_of}
+use Rattle.bn_model.specs.Reporting.{public_digest}
+use Rattle.bn_model.specs.Running.{Course}
+use Rattle.bn_model.specs.Summaries.{count_lines, ending_line, event_heads, head_of, is_of}
+use Rattle.bn_model.specs.Summaries.{summary}
+use Rattle.bn_model.specs.WholeRuns.{finish_of}
+use Rattle.bn_gen.specs.Tallies.{CountsWord, after_one, first_lines, kind_at, kind_line}
+use Rattle.bn_gen.specs.Tallies.{kind_lines, last_line, tally_of}
 
 length-tally_of : (told : List Line) → length (tally_of told) ≡ 18
 unfolding tally_of
@@ -55,3 +62,35 @@ tally_more word old new counts told line is was =
     (bytes_eq (word_of (get_or event_heads k Out)) (word_of (head_of line)))
     (get_or before k 0)) was
     ∙ sym (count_more told line k within))
+
+-- ---- the summary
+
+pub kind_lines-value : (counts : List ℕ) (i count next : ℕ) → count ≡ suc next
+    → kind_lines counts i count
+    ≡ kind_line (kind_at i) (get_or counts i 0) ++ kind_lines counts (i + 1) next
+unfolding kind_lines
+kind_lines-value counts i count next e = rw e refl
+
+pub no_kind_lines : (counts : List ℕ) (i count : ℕ) → count ≡ 0 → kind_lines counts i count ≡ []
+unfolding kind_lines
+no_kind_lines counts i count e = rw e refl
+
+kind_lines-are : (told : List Line) → kind_lines (tally_of told) 0 18 ≡ count_lines told
+unfolding kind_lines kind_line tally_of
+kind_lines-are told = refl
+
+summary-is : (number : ℕ) (run : Course) → summary number run
+    ≡ first_lines number run.last.clock ++ kind_lines (tally_of run.told) 0 18
+    ++ last_line (finish_of run) (public_digest run.last)
+unfolding summary first_lines last_line
+summary-is number run =
+    ap (λ (lines : List ℕ). first_lines number run.last.clock ++ lines ++ ending_line run)
+    (sym (kind_lines-are run.told))
+
+pub summary_made : (number events : ℕ) (counts : List ℕ) (finish : Finish) (digest : Digest)
+    (run : Course) → counts ≡ tally_of run.told → events ≡ run.last.clock → finish ≡ finish_of run
+    → digest ≡ public_digest run.last
+    → first_lines number events ++ kind_lines counts 0 18 ++ last_line finish digest
+    ≡ summary number run
+summary_made number events counts finish digest run t e f d =
+    rw (t, e, f, d) (sym (summary-is number run))

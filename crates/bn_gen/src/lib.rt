@@ -16,6 +16,8 @@ mod making;
 mod modules;
 mod script;
 mod stream;
+mod summary;
 mod tally;
 #[cfg(test)]
 mod tests;
+mod text;

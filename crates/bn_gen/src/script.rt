@@ -1,13 +1,12 @@
 //! The script: turns, and a key or a device's byte after each some.
-ghost use Rattle.std.specs.Prelude.{◌≡◌, ◌++◌, ◌∷◌, [], OnOk, codes, decimal};
-ghost use Rattle.hex.specs.Hex.{encode_lower};
+ghost use Rattle.std.specs.Prelude.{◌≡◌, ◌++◌, OnOk, codes, decimal};
 ghost use Rattle.bn_model.specs.Generating as flat;
 ghost use Rattle.bn_gen.specs.Parts as parts;
 
 use crate::stream::Stream;
+use crate::text::{put_byte, put_number};
 use bn_model::Command;
 use bn_types::Gpn;
-use itoa::Buffer;
 use std::alloc::AllocError;
 
 /// How many times turns and a key or a device come.
@@ -146,23 +145,4 @@ fn put_place(script: &mut Vec<u8>, page: Gpn, offset: u16) -> Result<(), AllocEr
     put_number(script, u64::from(page.0))?;
     script.extend_from_slice(b" ")?;
     put_number(script, u64::from(offset))
-}
-
-fn put_number(script: &mut Vec<u8>, number: u64) -> Result<(), AllocError>
-    ensures { OnOk result (script.new.items ≡ script.old.items ++ decimal number) }
-{
-    let mut buffer = Buffer::new();
-    script.extend_from_slice(buffer.format(number).as_bytes())
-}
-
-/// A byte as two hexadecimal digits.
-fn put_byte(script: &mut Vec<u8>, byte: u8) -> Result<(), AllocError>
-    ensures { OnOk result (script.new.items ≡ script.old.items ++ encode_lower (byte ∷ [])) }
-{
-    let mut digits = [0; 2];
-    match hex::encode_to_slice([byte], &mut digits) {
-        Ok(()) => {}
-        Err(_) => unreachable!(),
-    }
-    script.extend_from_slice(&digits)
 }

@@ -1,10 +1,17 @@
-ghost use Rattle.std.specs.Prelude.{◌≡◌, ◌-◌, ◌^◌, ◌<◌, ◌++◌, ◌∷◌, [], All, List, length};
+ghost use Rattle.std.specs.Prelude.{◌≡◌, ◌-◌, ◌^◌, ◌<◌, ◌++◌, ◌∷◌, [], All, IfOk, List, length};
 ghost use Rattle.bn_types.specs.declared.line.Line.{Line};
 ghost use Rattle.bn_model.specs.LineShapes.{word_of};
-ghost use Rattle.bn_model.specs.Summaries.{head_of};
-ghost use Rattle.bn_gen.specs.Tallies.{CountsWord, after_one, tally_of};
+ghost use Rattle.bn_model.specs.Reporting.{public_digest};
+ghost use Rattle.bn_model.specs.Running.{Course};
+ghost use Rattle.bn_model.specs.Summaries.{head_of, summary};
+ghost use Rattle.bn_model.specs.WholeRuns.{finish_of};
+ghost use Rattle.bn_gen.specs.Tallies.{CountsWord, after_one, first_lines, kind_lines, last_line};
+ghost use Rattle.bn_gen.specs.Tallies.{tally_of};
 
 use crate::kinds::{KINDS, word_of_kind};
+use crate::summary::{put_counts, put_first_lines, put_last_line};
+use bn_types::{Digest, Finish, NoMemory};
+use std::alloc::{AllocError, Global};
 use std::marker::Model;
 
 /// How often each kind of line that an event gives came.
@@ -39,6 +46,46 @@ impl Tally {
     {
         count_word(&mut self.counts, word);
     }
+
+    /// The summary of a run whose lines these are: the number that its image and script were made
+    /// of, how many events were made, how often each kind of line came, how the run ended, and the
+    /// digest of the pages that no module owns. NoMemory is want of memory.
+    pub fn summary(
+        &self,
+        alloc: Global,
+        number: u64,
+        events: u64,
+        finish: Finish,
+        digest: &Digest,
+    ) -> Result<Vec<u8>, NoMemory>
+        ensures { (run : Course) → self.now ≡ tally_of run.told → events ≡ run.last.clock
+            → finish ≡ finish_of run → digest.now ≡ public_digest run.last
+            → IfOk result (λ text. text.items ≡ summary number run) }
+    {
+        match write_summary(alloc, &self.counts, number, events, finish, digest) {
+            Ok(text) => Ok(text),
+            Err(_) => Err(NoMemory),
+        }
+    }
+}
+
+fn write_summary(
+    alloc: Global,
+    counts: &[u64],
+    number: u64,
+    events: u64,
+    finish: Finish,
+    digest: &Digest,
+) -> Result<Vec<u8>, AllocError>
+    requires { length counts.now ≡ 18 }
+    ensures { IfOk result (λ text. text.items
+        ≡ first_lines number events ++ kind_lines counts.now 0 18 ++ last_line finish digest.now) }
+{
+    let mut text = Vec::new(alloc);
+    put_first_lines(&mut text, number, events)?;
+    put_counts(&mut text, counts)?;
+    put_last_line(&mut text, finish, digest)?;
+    Ok(text)
 }
 
 /// Counts the kind of line that begins with a word.

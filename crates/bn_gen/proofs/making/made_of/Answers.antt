@@ -1,4 +1,4 @@
-use Rattle.std.proofs.Common.{◌≡◌, ◌*◌, ◌∙◌, ℕ, List, Some, ap, length, rules}
+use Rattle.std.proofs.Common.{◌*◌, ◌∙◌, ℕ, List, Some, ap, length, rules}
 use Rattle.bn_model.specs.Scripts.{script_in}
 use Rattle.bn_gen.proofs.ScriptReading.{script_read}
 use Rattle.bn_model.specs.WholeRuns.{image_in}
