@@ -1,11 +1,11 @@
 -- A tally with one line more.
-use Rattle.std.proofs.Common.{◌≡◌, ℕ, ◌+◌, ◌<◌, ◌∙◌, Bool, true, false, List, [], ◌∷◌, ◌++◌, ap}
+use Rattle.std.proofs.Common.{◌≡◌, ℕ, ◌+◌, ◌-◌, ◌^◌, ◌<◌, ◌∙◌, Bool, true, false, List, [], ◌∷◌, ◌++◌, ap}
 use Rattle.bn_types.specs.declared.digest.Digest.{Digest}
 use Rattle.bn_types.specs.declared.finish.Finish.{Finish}
 use Rattle.std.proofs.Common.{arith, cond, suc, get_or, length, refl, subst, sym}
 use Rattle.std.proofs.lemmas.Grind.{get_or_default_zero}
 use Rattle.std.proofs.lemmas.List.{ext_get_or}
-use Rattle.std.proofs.lemmas.List.Sums.{sum_by-append}
+use Rattle.std.proofs.lemmas.List.Sums.{count_by-le-length, sum_by-append}
 use Rattle.std.proofs.Math.ListN.{get_or-map}
 use Rattle.std.specs.List.{count_by}
 use Rattle.std.specs.Str.{bytes_eq}
@@ -48,14 +48,17 @@ count_more told line k within =
 
 -- each count is one more where the line's first word is that of its kind
 pub tally_more : (word old new : List ℕ) → CountsWord word old new → (told : List Line)
-    (line : Line) → word ≡ word_of (head_of line) → old ≡ tally_of told
+    (line : Line) → length told < 2 ^ 64 - 1 → old ≡ tally_of told → word ≡ word_of (head_of line)
     → new ≡ tally_of (told ++ (line ∷ []))
-tally_more word old new counts told line is was =
+tally_more word old new counts told line few was is =
     ext_get_or 0 new (tally_of (told ++ (line ∷ [])))
     (counts.long ∙ sym (length-tally_of (told ++ (line ∷ []))))
     (λ k h.
     let within : k < 18 = subst (λ (n : ℕ). k < n) counts.long h in
-    counts.each k within
+    let at : get_or old k 0 ≡ count_by (is_of (get_or event_heads k Out)) told =
+    ap (λ (before : List ℕ). get_or before k 0) was ∙ count_at told k within in
+    let most = count_by-le-length (is_of (get_or event_heads k Out)) told in
+    counts.each k within (omega (arith, at, most, few))
     ∙ ap (λ (w : List ℕ). after_one (bytes_eq (word_of (get_or event_heads k Out)) w)
     (get_or old k 0)) is
     ∙ ap (λ (before : List ℕ). after_one

@@ -1,5 +1,5 @@
 -- How often each kind of line came, and the text that tells of a run, from these counts.
-use Rattle.std.specs.Prelude.{◌≡◌, ℕ, ◌+◌, ◌<◌, Bool, true, false, List, ◌++◌, bytes_eq, codes}
+use Rattle.std.specs.Prelude.{◌≡◌, ℕ, ◌+◌, ◌-◌, ◌^◌, ◌<◌, Bool, true, false, List, ◌++◌, bytes_eq, codes}
 use Rattle.std.specs.Prelude.{count_by, decimal, flat_map, length, map, slice_index, slice_index_or}
 use Rattle.std.specs.List.{range_with_len}
 use Rattle.hex.specs.Hex.{encode_lower}
@@ -25,10 +25,11 @@ after_one false count = count
 abbrev pub kind_at : ℕ → Head
 kind_at k = slice_index_or event_heads k Out
 
--- the count of each kind is one more where lines of the kind begin with a word
+-- the count of each kind is one more where lines of the kind begin with a word, unless it is as
+-- large as can be
 pub record CountsWord (word old new : List ℕ) : Type 0 where
   pub long : length new ≡ 18
-  pub each : (k : ℕ) → k < 18
+  pub each : (k : ℕ) → k < 18 → slice_index old k < 2 ^ 64 - 1
       → slice_index new k ≡ after_one (bytes_eq (word_of (kind_at k)) word) (slice_index old k)
 
 -- ---- the summary

@@ -1,4 +1,4 @@
-ghost use Rattle.std.specs.Prelude.{◌≡◌, ◌-◌, ◌^◌, ◌<◌, ◌++◌, ◌∷◌, [], All, IfOk, List, length};
+ghost use Rattle.std.specs.Prelude.{◌≡◌, ◌-◌, ◌^◌, ◌<◌, ◌++◌, ◌∷◌, [], IfOk, List, length};
 ghost use Rattle.bn_types.specs.declared.line.Line.{Line};
 ghost use Rattle.bn_model.specs.LineShapes.{word_of};
 ghost use Rattle.bn_model.specs.Reporting.{public_digest};
@@ -37,12 +37,12 @@ impl Tally {
         Tally { counts: [0; 18] }
     }
 
-    /// Counts a line by its first word.
+    /// Counts a line by its first word, where fewer than 2^64 - 1 came before it.
     #[tactic(auto, using(crate::proofs::TallyLemmas::tally_more))]
     pub fn count(&mut self, word: &[u8])
-        requires { All (λ count. count < 2 ^ 64 - 1) self.old }
-        ensures { (told : List Line) (line : Line) → word.now ≡ word_of (head_of line)
-            → self.old ≡ tally_of told → self.new ≡ tally_of (told ++ line ∷ []) }
+        ensures { (told : List Line) (line : Line) → length told < 2 ^ 64 - 1
+            → self.old ≡ tally_of told → word.now ≡ word_of (head_of line)
+            → self.new ≡ tally_of (told ++ line ∷ []) }
     {
         count_word(&mut self.counts, word);
     }
@@ -90,8 +90,7 @@ fn write_summary(
 
 /// Counts the kind of line that begins with a word.
 fn count_word(counts: &mut [u64], word: &[u8])
-    requires long { length counts.old ≡ 18 }
-    requires small { All (λ count. count < 2 ^ 64 - 1) counts.old }
+    requires { length counts.old ≡ 18 }
     ensures { CountsWord word.now counts.old counts.new }
 {
     for (i, count) in counts.iter_mut().enumerate() {
@@ -101,8 +100,11 @@ fn count_word(counts: &mut [u64], word: &[u8])
 }
 
 fn counted(count: u64, is_told: bool) -> u64
-    requires { count < 2 ^ 64 - 1 }
-    ensures { result ≡ after_one is_told count }
+    ensures { count < 2 ^ 64 - 1 → result ≡ after_one is_told count }
 {
-    if is_told { count + 1 } else { count }
+    if is_told {
+        count.saturating_add(1)
+    } else {
+        count
+    }
 }

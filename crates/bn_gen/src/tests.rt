@@ -1,5 +1,7 @@
-use crate::make;
-use sha2::{Digest, Sha256};
+use crate::{Tally, make};
+use bn_types::{Digest, Finish};
+use sha2::{Digest as Hash, Sha256};
+use std::alloc::{AllocError, Global};
 use std::test::Fail;
 
 // Numbers, and the SHA-256 of the image and of the script of each, by tests/generator.py.
@@ -51,5 +53,62 @@ fn another_generator_makes_the_same(rt: HostRuntime) -> Result<(), Fail> {
             "the script of {number}"
         );
     }
+    Ok(())
+}
+
+// The summary of number 1, by tests/machine, which runs what it makes.
+const SUMMARY: [&str; 21] = [
+    "gen 1",
+    "events 177610",
+    "out 6400",
+    "deny 0",
+    "stop 283",
+    "trap 352",
+    "launch 8",
+    "call 6400",
+    "ret 6400",
+    "resume 283",
+    "evict 0",
+    "sset 0",
+    "refuse 0",
+    "start 0",
+    "key 17",
+    "nokey 0",
+    "poke 9",
+    "nopoke 9",
+    "peek 28",
+    "nopeek 1",
+    "end shutdown 066f53632e7696254b9f5e2237d3720837bbe231d536ab0168c1386726a5a4fa",
+];
+
+fn text_of(alloc: Global, lines: &[&str]) -> Result<Vec<u8>, AllocError> {
+    let mut text = Vec::new(alloc);
+    for line in lines {
+        text.extend_from_slice(line.as_bytes())?;
+        text.push(b'\n')?;
+    }
+    Ok(text)
+}
+
+// Counts as many lines of a kind as a line of the summary says.
+fn count_all(tally: &mut Tally, line: &str) {
+    if let Some((word, count)) = line.split_once(' ') {
+        for _line in 0..count.parse::<u32>().unwrap_or(0) {
+            tally.count(word.as_bytes());
+        }
+    }
+}
+
+#[test]
+fn a_summary_has_each_kind_of_line(rt: HostRuntime) -> Result<(), Fail> {
+    let mut tally = Tally::new();
+    for line in &SUMMARY[2..20] {
+        count_all(&mut tally, line);
+    }
+    let mut digest = [0; 32];
+    hex::decode_to_slice(&SUMMARY[20][13..], &mut digest)?;
+    let text = tally.summary(rt.alloc(), 1, 177610, Finish::Shutdown, &Digest(digest))?;
+    let wanted = text_of(rt.alloc(), &SUMMARY)?;
+    assert!(rt; text.as_slice() == wanted.as_slice());
     Ok(())
 }
