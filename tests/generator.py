@@ -6,8 +6,8 @@ usage: tests/generator.py NUMBER [IMAGE SCRIPT]
 
 NUMBER is from 0 to 18446744073709551615. IMAGE and SCRIPT are the files to write.
 
-The digests in crates/bn_gen/src/tests.rt are what this prints of the numbers there;
-`tests/check-tables generated` makes them anew, and compares.
+The digests in crates/bn_gen/src/tests.rt are what this prints of the numbers there, and the summary
+is that of a run by tests/machine; `tests/check-tables generated` makes them anew, and compares.
 """
 import hashlib
 import sys
@@ -22,10 +22,14 @@ def digests(number):
 
 
 def check_generated(path, report):
-    """Makes each number's image and script, and compares their digests."""
-    for number, *wanted in values(path)['MADE']:
+    """Makes each number's image and script, and compares their digests; runs number 1, and compares
+    the summary."""
+    constants = values(path)
+    for number, *wanted in constants['MADE']:
         for name, text, made in zip(('image', 'script'), wanted, digests(number)):
             report('%s of %d' % (name, number), text, made)
+    _, made = generator.summary(1)
+    report('summary of 1', '\n'.join(constants['SUMMARY']) + '\n', made)
 
 
 def main():

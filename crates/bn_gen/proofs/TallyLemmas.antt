@@ -1,14 +1,14 @@
--- A tally with one line more.
-use Rattle.std.proofs.Common.{◌≡◌, ℕ, ◌+◌, ◌-◌, ◌^◌, ◌<◌, ◌∙◌, Bool, true, false, List, [], ◌∷◌, ◌++◌, ap}
-use Rattle.bn_types.specs.declared.digest.Digest.{Digest}
-use Rattle.bn_types.specs.declared.finish.Finish.{Finish}
-use Rattle.std.proofs.Common.{arith, cond, suc, get_or, length, refl, subst, sym}
+-- A tally with one line more, and the summary from a tally.
+use Rattle.std.proofs.Common.{◌≡◌, ℕ, ◌+◌, ◌-◌, ◌^◌, ◌<◌, ◌∙◌, Bool, true, false, List, [], ◌∷◌}
+use Rattle.std.proofs.Common.{◌++◌, ap, arith, cond, get_or, length, refl, subst, suc, sym}
 use Rattle.std.proofs.lemmas.Grind.{get_or_default_zero}
 use Rattle.std.proofs.lemmas.List.{ext_get_or}
 use Rattle.std.proofs.lemmas.List.Sums.{count_by-le-length, sum_by-append}
 use Rattle.std.proofs.Math.ListN.{get_or-map}
 use Rattle.std.specs.List.{count_by}
 use Rattle.std.specs.Str.{bytes_eq}
+use Rattle.bn_types.specs.declared.digest.Digest.{Digest}
+use Rattle.bn_types.specs.declared.finish.Finish.{Finish}
 use Rattle.bn_types.specs.declared.line.Line.{Line}
 use Rattle.bn_model.specs.declared.head.Head.TheVariants.{Out}
 use Rattle.bn_model.specs.LineShapes.{word_of}
