@@ -2,4 +2,5 @@ pub mod ImageLoading
 pub mod PartLemmas
 pub mod ScriptReading
 pub mod TallyLemmas
+pub mod TextLemmas
 pub mod WordSizes

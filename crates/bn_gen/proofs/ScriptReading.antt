@@ -1,19 +1,17 @@
 -- The script that is made is read back as its commands.
-use Rattle.std.proofs.Common.{◌≡◌, ℕ, zero, suc, ◌+◌, ◌*◌, ◌/◌, ◌%◌, ◌^◌, ◌<◌, ◌≤◌, ◌==◌, ◌&&◌}
-use Rattle.std.proofs.Common.{◌∙◌, Bool, true, false, not, List, [], ◌∷◌, ◌++◌, length, get_or, map}
+use Rattle.std.proofs.Common.{◌≡◌, ℕ, zero, suc, ◌+◌, ◌*◌, ◌/◌, ◌%◌, ◌^◌, ◌<◌, ◌≤◌}
+use Rattle.std.proofs.Common.{◌∙◌, Bool, true, false, List, [], ◌∷◌, ◌++◌, length, get_or, map}
 use Rattle.std.proofs.Common.{Option, Some, Ok, nat_le, nat_lt, ap, append_assoc, arith}
 use Rattle.std.proofs.Common.{length-append, refl, subst, sym, lit<}
-use Rattle.std.proofs.lemmas.Bool.{false≢true}
 use Rattle.std.proofs.lemmas.Bool.Decides.{nat_tests}
 use Rattle.std.proofs.lemmas.Fmt.{length-decimal-le}
 use Rattle.std.proofs.lemmas.List.Elements.{All-append, All-cons, All-head, All-nil, All-tail}
-use Rattle.std.proofs.lemmas.List.Folds.{list_all-append}
 use Rattle.std.proofs.lemmas.List.FromFn.{get_or-map-range_with_len}
 use Rattle.std.proofs.Math.Nat.{mod-lt}
 use Rattle.std.specs.Fmt.{decimal}
 use Rattle.std.specs.List.{All, flat_map, list_all, range_with_len}
 use Rattle.std.specs.Prelude.{codes}
-use Rattle.hex.specs.Hex.{encode_lower, encode_with, lower_digits}
+use Rattle.hex.specs.Hex.{encode_lower, encode_with}
 use Rattle.bn_types.proofs.NumeralLemmas.{numeral_again, numeral_parts}
 use Rattle.bn_types.specs.Numerals.{is_digit}
 use Rattle.bn_types.specs.Splitting.{split_by}
@@ -22,59 +20,11 @@ use Rattle.bn_model.specs.Generating.{kernel_calls, next_state, script_text}
 use Rattle.bn_model.specs.Scripts.{byte_in, commands_from, commands_of, go_of, hex_digit, key_of}
 use Rattle.bn_model.specs.Scripts.{number_in, ordered_by, peek_of, poke_of, script_in, script_of}
 use Rattle.bn_gen.proofs.PartLemmas.{made_of-is}
+use Rattle.bn_gen.proofs.TextLemmas.{both, glyph, is_plain, lacks, lacks-append, lacks_if_plain}
+use Rattle.bn_gen.proofs.TextLemmas.{split_before, split_last}
 use Rattle.bn_gen.specs.Parts.{modules, rounds}
 use Rattle.bn_model.specs.declared.command.Command.{Command}
 use Rattle.bn_model.specs.declared.command.Command.TheVariants.{Turn, Go, Key, Poke, Peek}
-
--- ---- texts without spaces and line feeds
-
-abbrev is_plain : List ℕ → Bool
-is_plain text = list_all (λ byte. nat_lt 32 byte) text
-
-abbrev lacks : ℕ → List ℕ → Bool
-lacks mark text = list_all (λ byte. not (byte == mark)) text
-
-both : (a b : Bool) → (a && b) ≡ true → (a ≡ true) × (b ≡ true)
-both true b h = (refl, h)
-both false b h = absurd (false≢true h)
-
-lacks_if_plain : (mark : ℕ) (text : List ℕ) → mark ≤ 32 → is_plain text ≡ true
-    → lacks mark text ≡ true
-lacks_if_plain mark [] low h = refl
-lacks_if_plain mark (byte ∷ text) low h =
-    let parts = both (nat_lt 32 byte) (is_plain text) h in
-    let above : 32 < byte = (let t = parts.0 in grind (arith, nat_tests)) in
-    let other : (byte == mark) ≡ false = grind (arith, nat_tests) in
-    rw other (lacks_if_plain mark text low parts.1)
-
-lacks-append : (mark : ℕ) (a b : List ℕ) → lacks mark a ≡ true → lacks mark b ≡ true
-    → lacks mark (a ++ b) ≡ true
-lacks-append mark a b h g =
-    list_all-append (λ byte. not (byte == mark)) a b ∙ rw (h, g) refl
-
-other_first : (mark byte : ℕ) (text : List ℕ) → lacks mark (byte ∷ text) ≡ true
-    → ((byte == mark) ≡ false) × (lacks mark text ≡ true)
-other_first mark byte text h = go (byte == mark) refl h
-  where
-    go : (same : Bool) → (byte == mark) ≡ same → (not same && lacks mark text) ≡ true
-        → ((byte == mark) ≡ false) × (lacks mark text ≡ true)
-    go true e h = absurd (false≢true h)
-    go false e h = (e, h)
-
-split_last : (mark : ℕ) (text : List ℕ) → lacks mark text ≡ true → split_by mark text ≡ text ∷ []
-unfolding split_by
-split_last mark [] h = refl
-split_last mark (byte ∷ text) h =
-    let parts = other_first mark byte text h in rw (parts.0, split_last mark text parts.1) refl
-
-split_before : (mark : ℕ) (text more : List ℕ) → lacks mark text ≡ true →
-    split_by mark (text ++ (mark ∷ more)) ≡ text ∷ split_by mark more
-unfolding split_by
-split_before mark [] more h =
-    let same : (mark == mark) ≡ true = grind (arith, nat_tests) in rw same refl
-split_before mark (byte ∷ text) more h =
-    let parts = other_first mark byte text h in
-    rw (parts.0, split_before mark text more parts.1) refl
 
 -- ---- numbers and bytes
 
@@ -99,9 +49,6 @@ number_again number small =
     (let l : length (decimal number) ≤ 10 = length-decimal-le 10 number (lit< tt) small fits in
     grind (arith, nat_tests)) in
     rw (short, numeral_again (2 ^ 64) number (omega arith) fits) refl
-
-abbrev glyph : ℕ → ℕ
-glyph digit = get_or lower_digits digit 0
 
 glyph_again : (digit : ℕ) → digit < 16 → hex_digit (glyph digit) ≡ Some digit
 glyph_again digit small =

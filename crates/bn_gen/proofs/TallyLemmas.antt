@@ -1,6 +1,6 @@
 -- A tally with one line more, and the summary from a tally.
 use Rattle.std.proofs.Common.{◌≡◌, ℕ, ◌+◌, ◌-◌, ◌^◌, ◌<◌, ◌∙◌, Bool, true, false, List, [], ◌∷◌}
-use Rattle.std.proofs.Common.{◌++◌, ap, arith, cond, get_or, length, refl, subst, suc, sym}
+use Rattle.std.proofs.Common.{◌++◌, ap, append_assoc, append-nil, arith, length-append, cond, drop, get_or, length, refl, subst, suc, sym}
 use Rattle.std.proofs.lemmas.Grind.{get_or_default_zero}
 use Rattle.std.proofs.lemmas.List.{ext_get_or}
 use Rattle.std.proofs.lemmas.List.Sums.{count_by-le-length, sum_by-append}
@@ -14,10 +14,13 @@ use Rattle.bn_model.specs.declared.head.Head.TheVariants.{Out}
 use Rattle.bn_model.specs.LineShapes.{word_of}
 use Rattle.bn_model.specs.Reporting.{public_digest}
 use Rattle.bn_model.specs.Running.{Course}
+use Rattle.bn_model.specs.Spelling.{spelling, text_of}
 use Rattle.bn_model.specs.Summaries.{count_lines, ending_line, event_heads, head_of, is_of}
 use Rattle.bn_model.specs.Summaries.{summary}
 use Rattle.bn_model.specs.WholeRuns.{finish_of}
-use Rattle.bn_gen.specs.Tallies.{CountsWord, after_one, first_lines, kind_at, kind_line}
+use Rattle.bn_gen.proofs.TextLemmas.{first_line, length_of_line}
+use Rattle.bn_types.specs.Splitting.{pieces_after, split_by}
+use Rattle.bn_gen.specs.Tallies.{CountsFirst, CountsWord, after_one, first_lines, kind_at, kind_line}
 use Rattle.bn_gen.specs.Tallies.{kind_lines, last_line, tally_of}
 
 length-tally_of : (told : List Line) → length (tally_of told) ≡ 18
@@ -65,6 +68,75 @@ tally_more word old new counts told line few was is =
     (bytes_eq (word_of (get_or event_heads k Out)) (word_of (head_of line)))
     (get_or before k 0)) was
     ∙ sym (count_more told line k within))
+
+-- ---- texts
+
+pub first_counted : (text before more word after rest old new : List ℕ)
+    → split_by 10 text ≡ before ∷ pieces_after 10 more → text ≡ before ++ more
+    → split_by 32 before ≡ word ∷ pieces_after 32 after → CountsWord word old new
+    → rest ≡ drop 1 more → CountsFirst text rest old new
+first_counted text before more word after rest old new pieces whole words counts next =
+    λ told left line few was is.
+    let first = first_line text before more word after left line pieces whole words is in (
+      tally_more word old new counts told line few was first.word_is,
+      next ∙ ap (drop 1) first.more_is,
+    )
+
+-- how far the lines are counted
+pub record Reached (told lines : List Line) (counts rest : List ℕ) : Type 0 where
+  pub done : List Line
+  pub left : List Line
+  pub lines_are : lines ≡ done ++ left
+  pub counts_are : counts ≡ tally_of (told ++ done)
+  pub rest_is : rest ≡ text_of left
+
+pub none_done : (told lines : List Line) (counts rest : List ℕ) → counts ≡ tally_of told
+    → rest ≡ text_of lines → Reached told lines counts rest
+none_done told lines counts rest c r =
+    record {
+      done = [];
+      left = lines;
+      lines_are = refl;
+      counts_are = c ∙ ap tally_of (sym (append-nil told));
+      rest_is = r;
+    }
+
+pub one_done : (told lines : List Line) (old new rest more : List ℕ)
+    → length (told ++ lines) < 2 ^ 64 → 0 < length rest → CountsFirst rest more old new
+    → Reached told lines old rest → Reached told lines new more
+one_done told lines old new rest more few some counts reached =
+    go reached.left reached.lines_are reached.rest_is
+  where
+    go : (left : List Line) → lines ≡ reached.done ++ left → rest ≡ text_of left
+        → Reached told lines new more
+    go [] l r = absurd (let none = ap length r in omega (arith, none, some))
+    go (line ∷ left) l r =
+        let whole = length-append told lines in
+        let lengths = ap length l ∙ length-append reached.done (line ∷ left) in
+        let before = length-append told reached.done in
+        let one = counts (told ++ reached.done) left line
+        (omega (arith, whole, lengths, before, few)) reached.counts_are r in
+        record {
+          done = reached.done ++ (line ∷ []);
+          left = left;
+          lines_are = l ∙ sym (append_assoc reached.done (line ∷ []) left);
+          counts_are = one.0 ∙ ap tally_of (append_assoc told reached.done (line ∷ []));
+          rest_is = one.1;
+        }
+
+pub all_done : (told lines : List Line) (counts rest : List ℕ) → length rest ≡ 0
+    → Reached told lines counts rest → counts ≡ tally_of (told ++ lines)
+all_done told lines counts rest none reached = go reached.left reached.lines_are reached.rest_is
+  where
+    go : (left : List Line) → lines ≡ reached.done ++ left → rest ≡ text_of left
+        → counts ≡ tally_of (told ++ lines)
+    go [] l r =
+        reached.counts_are
+        ∙ ap (λ (done : List Line). tally_of (told ++ done)) (sym (l ∙ append-nil reached.done))
+    go (line ∷ left) l r =
+        let spelled = length_of_line line in
+        let whole = ap length r ∙ length-append (spelling line) (text_of left) in
+        absurd (omega (arith, spelled, whole, none))
 
 -- ---- the summary
 

@@ -1,5 +1,5 @@
 -- How often each kind of line came, and the text that tells of a run, from these counts.
-use Rattle.std.specs.Prelude.{◌≡◌, ℕ, ◌+◌, ◌-◌, ◌^◌, ◌<◌, Bool, true, false, List, ◌++◌, bytes_eq, codes}
+use Rattle.std.specs.Prelude.{◌≡◌, ℕ, ◌+◌, ◌-◌, ◌^◌, ◌<◌, Bool, true, false, List, [], ◌∷◌, ◌++◌, bytes_eq, codes}
 use Rattle.std.specs.Prelude.{count_by, decimal, flat_map, length, map, slice_index, slice_index_or}
 use Rattle.std.specs.List.{range_with_len}
 use Rattle.hex.specs.Hex.{encode_lower}
@@ -7,7 +7,7 @@ use Rattle.bn_types.specs.declared.digest.Digest.{Digest}
 use Rattle.bn_types.specs.declared.finish.Finish.{Finish}
 use Rattle.bn_types.specs.declared.line.Line.{Line}
 use Rattle.bn_model.specs.LineShapes.{word_of}
-use Rattle.bn_model.specs.Spelling.{finish_word}
+use Rattle.bn_model.specs.Spelling.{finish_word, text_of}
 use Rattle.bn_model.specs.Summaries.{event_heads, is_of}
 use Rattle.bn_model.specs.declared.head.Head.{Head}
 use Rattle.bn_model.specs.declared.head.Head.TheVariants.{Out}
@@ -31,6 +31,19 @@ pub record CountsWord (word old new : List ℕ) : Type 0 where
   pub long : length new ≡ 18
   pub each : (k : ℕ) → k < 18 → slice_index old k < 2 ^ 64 - 1
       → slice_index new k ≡ after_one (bytes_eq (word_of (kind_at k)) word) (slice_index old k)
+
+-- a text's first line is counted, and the rest is what stands after it
+abbrev pub CountsFirst : (text rest old new : List ℕ) → Type 0
+CountsFirst text rest old new =
+    (told left : List Line) (line : Line) → length told < 2 ^ 64 - 1 → old ≡ tally_of told
+    → text ≡ text_of (line ∷ left)
+    → (new ≡ tally_of (told ++ (line ∷ []))) × (rest ≡ text_of left)
+
+-- all lines of a text are counted
+abbrev pub CountsLines : (text old new : List ℕ) → Type 0
+CountsLines text old new =
+    (told lines : List Line) → length (told ++ lines) < 2 ^ 64 → old ≡ tally_of told
+    → text ≡ text_of lines → new ≡ tally_of (told ++ lines)
 
 -- ---- the summary
 

@@ -1,16 +1,16 @@
-ghost use Rattle.std.specs.Prelude.{◌≡◌, ◌-◌, ◌^◌, ◌<◌, ◌++◌, ◌∷◌, [], IfOk, List, length};
+ghost use Rattle.std.specs.Prelude.{◌≡◌, ◌-◌, ◌^◌, ◌<◌, ◌++◌, [], IfOk, List, drop, length};
 ghost use Rattle.bn_types.specs.declared.line.Line.{Line};
-ghost use Rattle.bn_model.specs.LineShapes.{word_of};
 ghost use Rattle.bn_model.specs.Reporting.{public_digest};
 ghost use Rattle.bn_model.specs.Running.{Course};
-ghost use Rattle.bn_model.specs.Summaries.{head_of, summary};
+ghost use Rattle.bn_model.specs.Spelling.{text_of};
+ghost use Rattle.bn_model.specs.Summaries.{summary};
 ghost use Rattle.bn_model.specs.WholeRuns.{finish_of};
-ghost use Rattle.bn_gen.specs.Tallies.{CountsWord, after_one, first_lines, kind_lines, last_line};
-ghost use Rattle.bn_gen.specs.Tallies.{tally_of};
+ghost use Rattle.bn_gen.specs.Tallies.{CountsFirst, CountsLines, CountsWord, after_one};
+ghost use Rattle.bn_gen.specs.Tallies.{first_lines, kind_lines, last_line, tally_of};
 
 use crate::kinds::{KINDS, word_of_kind};
 use crate::summary::{put_counts, put_first_lines, put_last_line};
-use bn_types::{Digest, Finish, NoMemory};
+use bn_types::{Digest, Finish, NoMemory, split_first};
 use std::alloc::{AllocError, Global};
 use std::marker::Model;
 
@@ -37,14 +37,13 @@ impl Tally {
         Tally { counts: [0; 18] }
     }
 
-    /// Counts a line by its first word, where fewer than 2^64 - 1 came before it.
-    #[tactic(auto, using(crate::proofs::TallyLemmas::tally_more))]
-    pub fn count(&mut self, word: &[u8])
-        ensures { (told : List Line) (line : Line) → length told < 2 ^ 64 - 1
-            → self.old ≡ tally_of told → word.now ≡ word_of (head_of line)
-            → self.new ≡ tally_of (told ++ line ∷ []) }
+    /// Counts the lines of a text, each by its first word, where fewer than 2^64 come in all.
+    pub fn count(&mut self, text: &[u8])
+        ensures { (told lines : List Line) → length (told ++ lines) < 2 ^ 64
+            → self.old ≡ tally_of told → text.now ≡ text_of lines
+            → self.new ≡ tally_of (told ++ lines) }
     {
-        count_word(&mut self.counts, word);
+        count_lines(&mut self.counts, text);
     }
 
     /// The summary of a run whose lines these are: the number that its image and script were made
@@ -86,6 +85,37 @@ fn write_summary(
     put_counts(&mut text, counts)?;
     put_last_line(&mut text, finish, digest)?;
     Ok(text)
+}
+
+fn count_lines(counts: &mut [u64], text: &[u8])
+    requires { length counts.old ≡ 18 }
+    ensures { CountsLines text.now counts.old counts.new }
+{
+    let mut rest = text;
+    'lines: while !rest.is_empty() {
+        rest = count_first(counts, rest);
+    }
+}
+
+/// Counts the first line of a text, and gives what stands after it.
+fn count_first<'a>(counts: &mut [u64], text: &'a [u8]) -> &'a [u8]
+    requires { length counts.old ≡ 18 }
+    ensures counted { CountsFirst text.now result.now counts.old counts.new }
+    ensures shorter { 0 < length text.now → length result.now < length text.now }
+{
+    let (line, more) = split_first(text, b'\n');
+    let (word, _fields) = split_first(line, b' ');
+    count_word(counts, word);
+    after_mark(more)
+}
+
+fn after_mark(text: &[u8]) -> &[u8]
+    ensures { result.now ≡ drop 1 text.now }
+{
+    match text {
+        [] => text,
+        [_, rest @ ..] => rest,
+    }
 }
 
 /// Counts the kind of line that begins with a word.
