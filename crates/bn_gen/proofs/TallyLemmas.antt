@@ -1,6 +1,7 @@
 -- A tally with one line more, and the summary from a tally.
 use Rattle.std.proofs.Common.{◌≡◌, ℕ, ◌+◌, ◌-◌, ◌^◌, ◌<◌, ◌∙◌, Bool, true, false, List, [], ◌∷◌}
-use Rattle.std.proofs.Common.{◌++◌, ap, append_assoc, append-nil, arith, length-append, cond, drop, get_or, length, refl, subst, suc, sym}
+use Rattle.std.proofs.Common.{◌++◌, ap, append_assoc, append-nil, arith, length-append, cond, drop}
+use Rattle.std.proofs.Common.{get_or, length, refl, subst, suc, sym}
 use Rattle.std.proofs.lemmas.Grind.{get_or_default_zero}
 use Rattle.std.proofs.lemmas.List.{ext_get_or}
 use Rattle.std.proofs.lemmas.List.Sums.{count_by-le-length, sum_by-append}
@@ -20,7 +21,8 @@ use Rattle.bn_model.specs.Summaries.{summary}
 use Rattle.bn_model.specs.WholeRuns.{finish_of}
 use Rattle.bn_gen.proofs.TextLemmas.{first_line, length_of_line}
 use Rattle.bn_types.specs.Splitting.{pieces_after, split_by}
-use Rattle.bn_gen.specs.Tallies.{CountsFirst, CountsWord, after_one, first_lines, kind_at, kind_line}
+use Rattle.bn_gen.specs.Tallies.{CountsFirst, CountsWord, after_one, first_lines, kind_at}
+use Rattle.bn_gen.specs.Tallies.{kind_line}
 use Rattle.bn_gen.specs.Tallies.{kind_lines, last_line, tally_of}
 
 length-tally_of : (told : List Line) → length (tally_of told) ≡ 18

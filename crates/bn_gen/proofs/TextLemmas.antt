@@ -1,6 +1,8 @@
 -- Texts without spaces and line feeds, taken apart; and the lines of the trace, which are such.
-use Rattle.std.proofs.Common.{◌≡◌, ℕ, zero, suc, ◌+◌, ◌/◌, ◌%◌, ◌<◌, ◌≤◌, ◌==◌, ◌&&◌, ◌∙◌, Bool, true}
-use Rattle.std.proofs.Common.{false, not, List, [], ◌∷◌, ◌++◌, ℤ, pos, negsuc, ap, append_assoc, arith}
+use Rattle.std.proofs.Common.{◌≡◌, ℕ, zero, suc, ◌+◌, ◌/◌, ◌%◌, ◌<◌, ◌≤◌, ◌==◌, ◌&&◌, ◌∙◌, Bool}
+use Rattle.std.proofs.Common.{true}
+use Rattle.std.proofs.Common.{false, not, List, [], ◌∷◌, ◌++◌, ℤ, pos, negsuc, ap, append_assoc}
+use Rattle.std.proofs.Common.{arith}
 use Rattle.std.proofs.Common.{drop, get_or, length, length-append, map, nat_lt, refl, subst, sym}
 use Rattle.std.proofs.Common.{⊎_elim}
 use Rattle.std.proofs.lemmas.Bool.{cases_lt, false≢true}
@@ -62,7 +64,8 @@ other_first mark byte text h = go (byte == mark) refl h
     go true e h = absurd (false≢true h)
     go false e h = (e, h)
 
-pub split_last : (mark : ℕ) (text : List ℕ) → lacks mark text ≡ true → split_by mark text ≡ text ∷ []
+pub split_last : (mark : ℕ) (text : List ℕ) → lacks mark text ≡ true
+    → split_by mark text ≡ text ∷ []
 unfolding split_by
 split_last mark [] h = refl
 split_last mark (byte ∷ text) h =

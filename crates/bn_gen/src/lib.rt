@@ -1,7 +1,7 @@
 //! A generated load: from a number, an image and a script that try the secure machine. The image
 //! has a kernel with its trap handler, and eight modules, which the kernel launches and then calls
-//! by turns; the script interrupts them by keys and devices. A tally counts the lines of the run, and
-//! writes its summary.
+//! by turns; the script interrupts them by keys and devices. A tally counts the lines of the run,
+//! and writes its summary.
 #![tactic(auto)]
 
 pub use made::Made;

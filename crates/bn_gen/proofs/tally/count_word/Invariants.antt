@@ -9,6 +9,7 @@ use Rattle.bn_gen.proofs.tally.count_word.Given as goal
 abbrev pub invariant-loop-i : goal.invariant-loop-i
 invariant-loop-i l = record {
   below : (k : ℕ) → k < l.i → get_or l.initial.counts k 0 < 2 ^ 64 - 1 → get_or l.counts k 0 ≡
-      after_one (bytes_eq (word_of (get_or event_heads k Out)) l.word) (get_or l.initial.counts k 0);
+      after_one (bytes_eq (word_of (get_or event_heads k Out)) l.word)
+      (get_or l.initial.counts k 0);
   above : (k : ℕ) → l.i ≤ k → get_or l.counts k 0 ≡ get_or l.initial.counts k 0;
 }
