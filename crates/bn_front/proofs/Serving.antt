@@ -280,7 +280,7 @@ ended_counts run old new stay = by_finish (finish_of run) where
 module _ (order : RunOrder) (inputs : Inputs) (old new : Outside)
     (reads : ReadsRun order (Ok inputs) old.desk new.desk) where
   -- the run begins with these records
-  begins_with : (records : List Record)
+  abbrev begins_with : (records : List Record)
       → ((storage : Storage) → IsSeen order.is_stored old.store storage
       → records_for order.is_stored storage ≡ Ok records)
       → Begins (Running order) old.desk old.store

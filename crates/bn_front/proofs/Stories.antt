@@ -1,5 +1,6 @@
 -- The promise of the one public call, from its whole story.
-use Rattle.std.proofs.Common.{◌≡◌, ◌≢◌, ◌≤◌, ℕ, ◌⊎◌, inl, inr, List, [], ◌++◌, Bool, true, false}
+use Rattle.std.proofs.Common.{◌≡◌, ◌≢◌, ◌≤◌, ℕ, ◌⊎◌, inl, inr, List, [], ◌∷◌, ◌++◌, Bool, true}
+use Rattle.std.proofs.Common.{false}
 use Rattle.std.proofs.Common.{Option, Some, None, Ok, Err, refl, sym, ap, subst, ◌∙◌, arith}
 use Rattle.std.proofs.lemmas.List.{append_assoc}
 use Rattle.bn_types.specs.declared.event.Event.{Event}
@@ -212,7 +213,7 @@ module _ (task : Task) (desk : DeskAccount) (store : StoreAccount) (due : Due) w
       (f.files, f.agrees, subst (λ (d : Due). Misses task f.files (due_text d)) (sym f.is) m)
   missing_due (OfStore f) e = let s = last_is _ f.is in absurd cc
   missing_due (OfRun f) e =
-      absurd (run_status _ _ (λ s. s ≡ answer.NoFile) f.is e (λ s. cc) (λ s. cc))
+      absurd (run_status (course_of f.run.start) f.run.order.is_stored (λ s. s ≡ answer.NoFile) f.is e (λ s. cc) (λ s. cc))
   missing_due (OfDesk f) e = let s = last_is _ f.is in absurd cc
   missing_due (OfOpening TheVault f) e = let s = last_is _ f.is in absurd cc
   missing_due (OfOpening TheChip f) e = let s = last_is _ f.is in absurd cc
@@ -225,7 +226,7 @@ module _ (task : Task) (desk : DeskAccount) (store : StoreAccount) (due : Due) w
       absurd (refuses_desk task f.files f.last f.refuses (sym (last_is (only f.last) f.is) ∙ e))
   desk_due (OfStore f) e = let s = last_is _ f.is in absurd cc
   desk_due (OfRun f) e =
-      absurd (run_status _ _ (λ s. s ≡ answer.DeskFault) f.is e (λ s. cc) (λ s. cc))
+      absurd (run_status (course_of f.run.start) f.run.order.is_stored (λ s. s ≡ answer.DeskFault) f.is e (λ s. cc) (λ s. cc))
   desk_due (OfDesk f) e = (f.file, f.reads, ap due_text f.is)
   desk_due (OfOpening TheVault f) e = let s = last_is _ f.is in absurd cc
   desk_due (OfOpening TheChip f) e = let s = last_is _ f.is in absurd cc
@@ -240,7 +241,7 @@ module _ (task : Task) (desk : DeskAccount) (store : StoreAccount) (due : Due) w
       absurd (refuses_vault task f.files f.last f.refuses (sym (last_is (only f.last) f.is) ∙ e))
   vault_due (OfStore f) e = let s = last_is _ f.is in absurd cc
   vault_due (OfRun f) e =
-      absurd (run_status _ _ (λ s. s ≡ answer.VaultFault) f.is e (λ s. cc) (λ s. cc))
+      absurd (run_status (course_of f.run.start) f.run.order.is_stored (λ s. s ≡ answer.VaultFault) f.is e (λ s. cc) (λ s. cc))
   vault_due (OfDesk f) e = let s = last_is _ f.is in absurd cc
   vault_due (OfOpening TheVault f) e = inl f
   vault_due (OfOpening TheChip f) e = let s = last_is _ f.is in absurd cc
@@ -252,7 +253,7 @@ module _ (task : Task) (desk : DeskAccount) (store : StoreAccount) (due : Due) w
       absurd (refuses_chip task f.files f.last f.refuses (sym (last_is (only f.last) f.is) ∙ e))
   chip_due (OfStore f) e = let s = last_is _ f.is in absurd cc
   chip_due (OfRun f) e =
-      absurd (run_status _ _ (λ s. s ≡ answer.ChipFault) f.is e (λ s. cc) (λ s. cc))
+      absurd (run_status (course_of f.run.start) f.run.order.is_stored (λ s. s ≡ answer.ChipFault) f.is e (λ s. cc) (λ s. cc))
   chip_due (OfDesk f) e = let s = last_is _ f.is in absurd cc
   chip_due (OfOpening TheVault f) e = let s = last_is _ f.is in absurd cc
   chip_due (OfOpening TheChip f) e = inl f
@@ -267,7 +268,7 @@ module _ (task : Task) (desk : DeskAccount) (store : StoreAccount) (due : Due) w
         → StorageStays before after
     kept_due (OfFiles f) b = stays_by f.last f.is
     kept_due (OfStore f) b = stays_by _ f.is
-    kept_due (OfRun f) b = absurd (run_status _ _ IsBeforeRun f.is b (λ s. s) (λ s. s))
+    kept_due (OfRun f) b = absurd (run_status (course_of f.run.start) f.run.order.is_stored IsBeforeRun f.is b (λ s. s) (λ s. s))
     kept_due (OfDesk f) b = stays_by _ f.is
     kept_due (OfOpening device f) b = stays_by _ f.is
     kept_due (OfCommit TheVault f) b =
@@ -312,26 +313,21 @@ abbrev NoDevice : Status → Type 0
 NoDevice status =
     (status ≢ answer.DeskFault) × (status ≢ answer.VaultFault) × (status ≢ answer.ChipFault)
 
-module _ (task : Task) (desk : DeskAccount) (store : StoreAccount) (due : Due) where
+module _ (task : Task) (desk : DeskAccount) (store : StoreAccount) (due : Due)
+    (after : StoreAccount) (ended_so : IsLeft due.act store after) where
   -- where no device failed, a due is a report of the task, and the store is left as it says
   record IsReport (files : Files) : Type 0 where
     told : AreTold desk.files files
     is : (storage : Storage) → IsSeen (has_store task) store storage
         → reported due storage ≡ report_of_task task files storage
-    left : (storage : Storage) (before after : StoreAccount)
-        → IsLeft due.act before after → Keeps before storage
-        → Keeps after (storage_by due.act storage)
+    left : (storage : Storage) → Keeps store storage → Keeps after (storage_by due.act storage)
 
-  leaves : (before after : StoreAccount) (storage : Storage) → StorageStays before after
-      → Keeps before storage → Keeps after storage
-  leaves before after storage stays keeps = keeps_on before after stays storage keeps
-
-  left_by : (last : said.Report) → due ≡ only last → (storage : Storage)
-      (before after : StoreAccount) → IsLeft due.act before after → Keeps before storage
+  left_by : (last : said.Report) → due ≡ only last → (storage : Storage) → Keeps store storage
       → Keeps after (storage_by due.act storage)
-  left_by last is storage before after =
-      subst (λ (d : Due). IsLeft d.act before after → Keeps before storage
-      → Keeps after (storage_by d.act storage)) (sym is) (leaves before after storage)
+  left_by last is storage keeps =
+      subst (λ (d : Due). Keeps after (storage_by d.act storage)) (sym is)
+      (keeps_on store after (subst (λ (d : Due). IsLeft d.act store after) is ended_so) storage
+      keeps)
 
   files_reported : (files : Files) (last : said.Report) → Refuses task files last
       → (storage : Storage) → reported (only last) storage ≡ report_of_task task files storage
@@ -391,10 +387,10 @@ module _ (task : Task) (desk : DeskAccount) (store : StoreAccount) (due : Due) w
         (run_reported f.run.order f.run.files storage f.run.start
         (f.run.begins storage
         (subst (λ (b : Bool). IsSeen b store storage) (ap has_store f.run.runs) seen))));
-    left = λ storage before after left keeps.
+    left = λ storage keeps.
         subst (λ (d : Due). Keeps after (storage_by d.act storage)) (sym f.is)
-        (left_run f.run.order.is_stored storage before after
-        (subst (λ (d : Due). IsLeft d.act before after) f.is left) keeps);
+        (left_run f.run.order.is_stored storage
+        (subst (λ (d : Due). IsLeft d.act store after) f.is ended_so) keeps);
   }) where
     run : Course
     run = course_of f.run.start
@@ -404,11 +400,11 @@ module _ (task : Task) (desk : DeskAccount) (store : StoreAccount) (due : Due) w
     by_store false storage = refl
     by_store true storage = refl
 
-    left_run : (b : Bool) (storage : Storage) (before after : StoreAccount)
-        → IsLeft (act_at_end b run.last.records) before after → Keeps before storage
+    left_run : (b : Bool) (storage : Storage)
+        → IsLeft (act_at_end b run.last.records) store after → Keeps store storage
         → Keeps after (storage_by (act_at_end b run.last.records) storage)
-    left_run false storage before after left keeps = leaves before after storage left keeps
-    left_run true storage before after left keeps = record {
+    left_run false storage left keeps = keeps_on store after left storage keeps
+    left_run true storage left keeps = record {
       areas = left.image.stable storage keeps;
       register = left.register
           ∙ ap (λ (r : Option (List ℕ)). replaced r (sha256 (image_of run.last.records)))
@@ -418,16 +414,17 @@ module _ (task : Task) (desk : DeskAccount) (store : StoreAccount) (due : Due) w
 
   due_reported : IsDue task desk store due → NoDevice due.last.status
       → (files : Files) × IsReport files
-  due_reported (OfFiles f) no = of_files f
-  due_reported (OfStore f) no = of_store f
-  due_reported (OfRun f) no = of_run f
-  due_reported (OfDesk f) no = absurd (no.0 (last_is task desk store due _ f.is))
-  due_reported (OfOpening TheVault f) no = absurd (no.1 (last_is task desk store due _ f.is))
-  due_reported (OfOpening TheChip f) no = absurd (no.2 (last_is task desk store due _ f.is))
-  due_reported (OfCommit TheVault f) no = absurd (no.1 (last_is task desk store due _ f.is))
-  due_reported (OfCommit TheChip f) no = absurd (no.2 (last_is task desk store due _ f.is))
+  due_reported (OfFiles f) apart = of_files f
+  due_reported (OfStore f) apart = of_store f
+  due_reported (OfRun f) apart = of_run f
+  due_reported (OfDesk f) apart = absurd (apart.0 (last_is task desk store due _ f.is))
+  due_reported (OfOpening TheVault f) apart = absurd (apart.1 (last_is task desk store due _ f.is))
+  due_reported (OfOpening TheChip f) apart = absurd (apart.2 (last_is task desk store due _ f.is))
+  due_reported (OfCommit TheVault f) apart = absurd (apart.1 (last_is task desk store due _ f.is))
+  due_reported (OfCommit TheChip f) apart = absurd (apart.2 (last_is task desk store due _ f.is))
 
-  -- which devices can have failed, where a store is used
+-- which devices can have failed, where a store is used
+module _ (task : Task) (desk : DeskAccount) (store : StoreAccount) (due : Due) where
   uses_device : (device : Device) → IsDue task desk store due
       → due.last.status ≡ (unread device).status → has_store task ≡ true
   uses_device TheVault is e = by_vault (vault_due task desk store due is e) where
@@ -509,9 +506,12 @@ module _ (words : List (List ℕ)) (old new : Outside) (status : Status) where
 
     reports : AllWork words old new → WritesReport words status old new
     unfolding report_of
-    reports work = go (due_reported (task_of words) old.desk old.store w.due w.is (no_device work))
+    reports work =
+        go (due_reported (task_of words) old.desk old.store w.due new.store a.left w.is
+        (no_device work))
       where
-        go : (files : Files) × IsReport (task_of words) old.desk old.store w.due files
+        go : (files : Files)
+            × IsReport (task_of words) old.desk old.store w.due new.store a.left files
             → WritesReport words status old new
         go found = record {
           files = found.0;
@@ -521,7 +521,7 @@ module _ (words : List (List ℕ)) (old new : Outside) (status : Status) where
             written = a.written ∙ ap (λ (r : Report). appended old.sink.written r.text) is;
             left = λ keeps.
                 subst (λ (r : Report). Keeps new.store r.storage) is
-                (found.1.left storage old.store new.store a.left keeps);
+                (found.1.left storage keeps);
           };
         }
 

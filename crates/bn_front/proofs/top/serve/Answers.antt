@@ -1,4 +1,4 @@
-use Rattle.std.proofs.Common.{refl, subst}
+use Rattle.std.proofs.Common.{ap, refl, subst, ◌∙◌}
 use Rattle.bn_front.specs.Built.{Task, has_store}
 use Rattle.bn_front.specs.Headline.{outside}
 use Rattle.bn_front.specs.Meant.{bytes_of_words}
@@ -25,3 +25,8 @@ returns-in-Err-clause-story g c =
     (g.O.Sink.account c.args.out.now) (g.O.Sink.account c.refuse_words.new.out)
     (bytes_of_words c.args.words.now) c.in-Err.error c.refuse_words.result c.in-Err.ensures.read
     refl c.refuse_words.ensures.answers
+
+pub returns-in-Ok-clause-uncalled : goal.returns-in-Ok-clause-uncalled
+returns-in-Ok-clause-uncalled g c = λ plain.
+    c.serve_order.ensures.uncalled
+    (ap has_store (asked (bytes_of_words c.args.words.now) _ c.in-Ok.ensures.read) ∙ plain)
