@@ -8,7 +8,8 @@ use Rattle.bn_model.specs.Scripts.{Script}
 use Rattle.bn_model.specs.Storing.{Storage}
 use Rattle.bn_model.specs.WholeRuns as whole
 use Rattle.bn_model.specs.WholeRuns.{Refused, Start, image_in, records_for, script_for}
-use Rattle.bn_front.specs.Reading.{Parts, parts_of, start_from}
+use Rattle.bn_front.specs.Reading.{parts_of}
+use Rattle.bn_front.specs.Starts.{Parts, start_from}
 
 -- ---- the files
 

@@ -19,7 +19,8 @@ use Rattle.bn_model.specs.Reporting.{fault_line}
 use Rattle.bn_front.specs.declared.named_file.NamedFile.{NamedFile}
 use Rattle.bn_front.specs.declared.named_file.NamedFile.TheVariants as named_file
 use Rattle.bn_front.specs.Due.{AreTold, ComesTo, missing_line}
-use Rattle.bn_front.specs.Reading.{Parts, parts_of, start_from}
+use Rattle.bn_front.specs.Reading.{parts_of}
+use Rattle.bn_front.specs.Starts.{Parts}
 use Rattle.bn_front.proofs.Beginnings.{begins, parts_steps, with_image, with_parts}
 use Rattle.bn_front.proofs.Beginnings.{with_records, with_script}
 

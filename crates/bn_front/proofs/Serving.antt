@@ -27,7 +27,7 @@ use Rattle.bn_front.specs.declared.run_order.RunOrder as run_order
 use Rattle.bn_front.specs.declared.words_error.WordsError.{WordsError}
 use Rattle.bn_front.specs.declared.words_error.WordsError.TheVariants as error
 use Rattle.bn_front.specs.Built.{NoTask, Running, Task, Unbuilt, status_meant, task_by, task_of}
-use Rattle.bn_front.specs.Due.{Begins, Device, Due, IsDue, OfCommit, OfDesk, OfFiles, OfOpening}
+use Rattle.bn_front.specs.Due.{AreAccepted, Begins, Device, Due, IsDue, OfCommit, OfDesk, OfFiles, OfOpening}
 use Rattle.bn_front.specs.Due.{OfRun, OfStore, OpensStore, Refuses, TheChip, TheVault, bad_store}
 use Rattle.bn_front.specs.Due.{desk_failed, due_text, ended, finished, missing_line, no_command}
 use Rattle.bn_front.specs.Due.{no_part, only, unfinished, unread, unwritten}
@@ -40,7 +40,7 @@ use Rattle.bn_front.specs.Story.{Answers, AnswersDue, AnswersRefusal, AnswersRep
 use Rattle.bn_front.specs.Story.{Counts, CountsChipFault, CountsDeskFault, CountsDevice, CountsMiss}
 use Rattle.bn_front.specs.Story.{CountsVaultFault, IsOnlyRead, IsOpened, IsStory, LacksMemory}
 use Rattle.bn_front.specs.Story.{OpensAndRuns, RunsPlainly, RunsStored, WantsMemory, act_of, last_of}
-use Rattle.bn_front.proofs.Beginnings.{begun, parts_read, run_refused}
+use Rattle.bn_front.proofs.Beginnings.{parts_read, run_refused}
 use Rattle.bn_front.proofs.Moments.{unchanged}
 use Rattle.bn_front.proofs.Readings.{seen_told}
 
@@ -279,6 +279,16 @@ ended_counts run old new stay = by_finish (finish_of run) where
 
 module _ (order : RunOrder) (inputs : Inputs) (old new : Outside)
     (reads : ReadsRun order (Ok inputs) old.desk new.desk) where
+  abbrev accepted : AreAccepted order old.desk
+  accepted =
+      let read = parts_read order reads.files (parts_meant inputs) reads.gives in record {
+        files = reads.files;
+        agrees = reads.agrees;
+        parts = parts_meant inputs;
+        loaded = read.loaded;
+        read = read.read;
+      }
+
   -- the run begins with these records
   abbrev begins_with : (records : List Record)
       → ((storage : Storage) → IsSeen order.is_stored old.store storage
@@ -287,12 +297,9 @@ module _ (order : RunOrder) (inputs : Inputs) (old new : Outside)
   begins_with records finds = record {
     order = order;
     runs = refl;
-    files = reads.files;
-    agrees = reads.agrees;
-    start = start_with order inputs records;
-    begins = λ storage seen.
-        begun order reads.files storage (parts_meant inputs) records reads.gives
-        (finds storage seen);
+    accepted = accepted;
+    records = records;
+    finds = finds;
   }
 
   -- its lines couldn't all be written
@@ -312,17 +319,7 @@ module _ (order : RunOrder) (inputs : Inputs) (old new : Outside)
 
   module _ (is_stored : order.is_stored ≡ true) where
     opens : OpensStore (Running order) old.desk
-    opens = let read = parts_read order reads.files (parts_meant inputs) reads.gives in record {
-      order = order;
-      runs = refl;
-      stored = is_stored;
-      files = reads.files;
-      agrees = reads.agrees;
-      image = (parts_meant inputs).image;
-      loaded = read.loaded;
-      script = (parts_meant inputs).script;
-      read = read.read;
-    }
+    opens = record { order = order; runs = refl; stored = is_stored; accepted = accepted }
 
     tells : (storage : Storage) → IsSeen order.is_stored old.store storage
         → Tells old.store storage

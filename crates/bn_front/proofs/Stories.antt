@@ -34,19 +34,21 @@ use Rattle.bn_front.specs.Built.{report_of_task, status_meant, task_of, told_as,
 use Rattle.bn_front.specs.Due.{AreTold, Begins, Device, Due, IsDue, IsOfCommit, IsOfFiles}
 use Rattle.bn_front.specs.Due.{IsOfOpening, IsOfRun, IsOfStore, OfCommit, OfDesk, OfFiles}
 use Rattle.bn_front.specs.Due.{OfOpening, OfRun, OfStore, OpensStore, ReadsFile, Refuses}
+use Rattle.bn_front.specs.Due.{course_begun}
 use Rattle.bn_front.specs.Due.{TheChip, TheVault, act_at_end, due_text, ended, failed_line, finished}
 use Rattle.bn_front.specs.Due.{missing_line, only, reported, storage_by, unfinished, unread}
 use Rattle.bn_front.specs.Due.{unwritten}
 use Rattle.bn_front.specs.Headline.{AllWork, CommitsRun, EndsRun, FailsBefore, FailsInLast}
-use Rattle.bn_front.specs.Headline.{FailsWithin, IsAdmitted, IsAnswered, IsBeforeRun, IsQuiet}
+use Rattle.bn_front.specs.Headline.{FailsWithin, IsAdmitted, IsAnswer, IsAnswered, IsBeforeRun}
+use Rattle.bn_front.specs.Headline.{IsQuiet}
 use Rattle.bn_front.specs.Headline.{Outside, Promise, StartsModules, StoreWorks, WritesFault}
 use Rattle.bn_front.specs.Headline.{WritesFrontOfDue, WritesLine, WritesReport}
-use Rattle.bn_front.specs.Starts.{HoldBytes, RunMakes, StoreBytes}
+use Rattle.bn_front.specs.Starts.{HoldBytes, RunMakes, StoreBytes, start_from}
 use Rattle.bn_front.specs.Stored.{CrashesOpenAlike, IsCommitted, IsLeft, IsSeen, Keeps, Leaves}
 use Rattle.bn_front.specs.Stored.{StorageStays, StoreAccount, Tells}
 use Rattle.bn_front.specs.Story.{AnswersDue, Counts, CountsChipFault, CountsDeskFault, CountsMiss}
-use Rattle.bn_front.specs.Story.{CountsSinkFault, CountsVaultFault, IsAnswer, IsStory, WasDue}
-use Rattle.bn_front.proofs.Beginnings.{both_read, store_refused}
+use Rattle.bn_front.specs.Story.{CountsSinkFault, CountsVaultFault, IsStory, WasDue}
+use Rattle.bn_front.proofs.Beginnings.{begun, both_read, store_refused}
 use Rattle.bn_front.proofs.Missing.{IsMissing, missing_file}
 use Rattle.bn_front.proofs.Moments.{HasOnlyNow, keeps_on, left_alike, stays_alike}
 use Rattle.bn_front.proofs.Reached.{hidden-secrets, opened-records, reached-sound, written-alike}
@@ -213,7 +215,7 @@ module _ (task : Task) (desk : DeskAccount) (store : StoreAccount) (due : Due) w
       (f.files, f.agrees, subst (λ (d : Due). Misses task f.files (due_text d)) (sym f.is) m)
   missing_due (OfStore f) e = let s = last_is _ f.is in absurd cc
   missing_due (OfRun f) e =
-      absurd (run_status (course_of f.run.start) f.run.order.is_stored (λ s. s ≡ answer.NoFile) f.is e (λ s. cc) (λ s. cc))
+      absurd (run_status (course_begun f.run) f.run.order.is_stored (λ s. s ≡ answer.NoFile) f.is e (λ s. cc) (λ s. cc))
   missing_due (OfDesk f) e = let s = last_is _ f.is in absurd cc
   missing_due (OfOpening TheVault f) e = let s = last_is _ f.is in absurd cc
   missing_due (OfOpening TheChip f) e = let s = last_is _ f.is in absurd cc
@@ -226,7 +228,7 @@ module _ (task : Task) (desk : DeskAccount) (store : StoreAccount) (due : Due) w
       absurd (refuses_desk task f.files f.last f.refuses (sym (last_is (only f.last) f.is) ∙ e))
   desk_due (OfStore f) e = let s = last_is _ f.is in absurd cc
   desk_due (OfRun f) e =
-      absurd (run_status (course_of f.run.start) f.run.order.is_stored (λ s. s ≡ answer.DeskFault) f.is e (λ s. cc) (λ s. cc))
+      absurd (run_status (course_begun f.run) f.run.order.is_stored (λ s. s ≡ answer.DeskFault) f.is e (λ s. cc) (λ s. cc))
   desk_due (OfDesk f) e = (f.file, f.reads, ap due_text f.is)
   desk_due (OfOpening TheVault f) e = let s = last_is _ f.is in absurd cc
   desk_due (OfOpening TheChip f) e = let s = last_is _ f.is in absurd cc
@@ -241,7 +243,7 @@ module _ (task : Task) (desk : DeskAccount) (store : StoreAccount) (due : Due) w
       absurd (refuses_vault task f.files f.last f.refuses (sym (last_is (only f.last) f.is) ∙ e))
   vault_due (OfStore f) e = let s = last_is _ f.is in absurd cc
   vault_due (OfRun f) e =
-      absurd (run_status (course_of f.run.start) f.run.order.is_stored (λ s. s ≡ answer.VaultFault) f.is e (λ s. cc) (λ s. cc))
+      absurd (run_status (course_begun f.run) f.run.order.is_stored (λ s. s ≡ answer.VaultFault) f.is e (λ s. cc) (λ s. cc))
   vault_due (OfDesk f) e = let s = last_is _ f.is in absurd cc
   vault_due (OfOpening TheVault f) e = inl f
   vault_due (OfOpening TheChip f) e = let s = last_is _ f.is in absurd cc
@@ -253,7 +255,7 @@ module _ (task : Task) (desk : DeskAccount) (store : StoreAccount) (due : Due) w
       absurd (refuses_chip task f.files f.last f.refuses (sym (last_is (only f.last) f.is) ∙ e))
   chip_due (OfStore f) e = let s = last_is _ f.is in absurd cc
   chip_due (OfRun f) e =
-      absurd (run_status (course_of f.run.start) f.run.order.is_stored (λ s. s ≡ answer.ChipFault) f.is e (λ s. cc) (λ s. cc))
+      absurd (run_status (course_begun f.run) f.run.order.is_stored (λ s. s ≡ answer.ChipFault) f.is e (λ s. cc) (λ s. cc))
   chip_due (OfDesk f) e = let s = last_is _ f.is in absurd cc
   chip_due (OfOpening TheVault f) e = let s = last_is _ f.is in absurd cc
   chip_due (OfOpening TheChip f) e = inl f
@@ -268,7 +270,7 @@ module _ (task : Task) (desk : DeskAccount) (store : StoreAccount) (due : Due) w
         → StorageStays before after
     kept_due (OfFiles f) b = stays_by f.last f.is
     kept_due (OfStore f) b = stays_by _ f.is
-    kept_due (OfRun f) b = absurd (run_status (course_of f.run.start) f.run.order.is_stored IsBeforeRun f.is b (λ s. s) (λ s. s))
+    kept_due (OfRun f) b = absurd (run_status (course_begun f.run) f.run.order.is_stored IsBeforeRun f.is b (λ s. s) (λ s. s))
     kept_due (OfDesk f) b = stays_by _ f.is
     kept_due (OfOpening device f) b = stays_by _ f.is
     kept_due (OfCommit TheVault f) b =
@@ -281,7 +283,7 @@ module _ (task : Task) (desk : DeskAccount) (store : StoreAccount) (due : Due) w
 
     committed_due : IsDue task desk store due → has_store task ≡ true → EndsRun due.last.status
         → (run : Begins task desk store)
-        × IsCommitted (course_of run.start).last.records before after
+        × IsCommitted (course_begun run).last.records before after
     committed_due (OfFiles f) stored ends =
         absurd (refuses_ended task f.files f.last f.refuses
         (subst (λ (d : Due). EndsRun d.last.status) f.is ends))
@@ -292,7 +294,7 @@ module _ (task : Task) (desk : DeskAccount) (store : StoreAccount) (due : Due) w
         sym (ap has_store f.run.runs) ∙ stored in (
           f.run,
           subst (λ (b : Bool).
-          IsLeft (act_at_end b (course_of f.run.start).last.records) before after)
+          IsLeft (act_at_end b (course_begun f.run).last.records) before after)
           is_stored
           (subst (λ (d : Due). IsLeft d.act before after) f.is left),
         )
@@ -350,11 +352,11 @@ module _ (task : Task) (desk : DeskAccount) (store : StoreAccount) (due : Due)
   })
 
   of_store : IsOfStore task desk store due → (files : Files) × IsReport files
-  of_store f = (f.opens.files, record {
-    told = f.opens.agrees;
+  of_store f = (f.opens.accepted.files, record {
+    told = f.opens.accepted.agrees;
     is = λ storage seen.
         ap (λ (d : Due). reported d storage) f.is
-        ∙ sym (ap (λ (t : Task). report_of_task t f.opens.files storage) f.opens.runs
+        ∙ sym (ap (λ (t : Task). report_of_task t f.opens.accepted.files storage) f.opens.runs
         ∙ ap told_as (refused storage seen));
     left = left_by _ f.is;
   }) where
@@ -364,36 +366,40 @@ module _ (task : Task) (desk : DeskAccount) (store : StoreAccount) (due : Due)
         (ap has_store f.opens.runs ∙ f.opens.stored) seen
 
     refused : (storage : Storage) → IsSeen (has_store task) store storage
-        → whole.report_of_run f.opens.order f.opens.files storage
+        → whole.report_of_run f.opens.order f.opens.accepted.files storage
         ≡ record { status = whole.Store; text = f.line; storage = storage }
     refused storage seen =
-        refusal_reported f.opens.order f.opens.files storage
+        refusal_reported f.opens.order f.opens.accepted.files storage
         (record { refusal = BadStore; line = f.line })
-        (store_refused f.opens.order f.opens.files storage
-        (record { image = f.opens.image; script = f.opens.script }) _
-        (both_read f.opens.order f.opens.files f.opens.image f.opens.script
-        f.opens.loaded f.opens.read)
+        (store_refused f.opens.order f.opens.accepted.files storage
+        f.opens.accepted.parts _
+        (both_read f.opens.order f.opens.accepted.files f.opens.accepted.parts.image
+        f.opens.accepted.parts.script f.opens.accepted.loaded f.opens.accepted.read)
         (ap (λ (b : Bool). records_for b storage) f.opens.stored
         ∙ ap records_found (f.refuses storage (tells storage seen))))
 
   of_run : IsOfRun task desk store due → (files : Files) × IsReport files
-  of_run f = (f.run.files, record {
-    told = f.run.agrees;
+  of_run f = (f.run.accepted.files, record {
+    told = f.run.accepted.agrees;
     is = λ storage seen.
         ap (λ (d : Due). reported d storage) f.is
         ∙ by_store f.run.order.is_stored storage
-        ∙ sym (ap (λ (t : Task). report_of_task t f.run.files storage) f.run.runs
+        ∙ sym (ap (λ (t : Task). report_of_task t f.run.accepted.files storage) f.run.runs
         ∙ ap told_as
-        (run_reported f.run.order f.run.files storage f.run.start
-        (f.run.begins storage
-        (subst (λ (b : Bool). IsSeen b store storage) (ap has_store f.run.runs) seen))));
+        (run_reported f.run.order f.run.accepted.files storage
+        (start_from f.run.order f.run.accepted.parts f.run.records)
+        (begun f.run.order f.run.accepted.files storage f.run.accepted.parts f.run.records
+        (both_read f.run.order f.run.accepted.files f.run.accepted.parts.image
+        f.run.accepted.parts.script f.run.accepted.loaded f.run.accepted.read)
+        (f.run.finds storage
+        (subst (λ (b : Bool). IsSeen b store storage) (ap has_store f.run.runs) seen)))));
     left = λ storage keeps.
         subst (λ (d : Due). Keeps after (storage_by d.act storage)) (sym f.is)
         (left_run f.run.order.is_stored storage
         (subst (λ (d : Due). IsLeft d.act store after) f.is ended_so) keeps);
   }) where
     run : Course
-    run = course_of f.run.start
+    run = course_begun f.run
 
     by_store : (b : Bool) (storage : Storage)
         → reported (finished b run) storage ≡ told_as (whole.report_of_course b run storage)
@@ -580,6 +586,7 @@ pub promise : (words : List (List ℕ)) (status : Status) (old new : Outside)
     → CountsSinkFault status old.sink.faults new.sink.faults → Promise words status old new
 promise words answer.Memory old new law s c = record {
   exact = λ work memory. absurd (memory refl);
+  whole = λ memory sink. absurd (memory refl);
   sink_fault = sink_told answer.Memory _ _ c;
   no_file = λ work. told_nowhere _ _ _ (λ e. cc) s.counts.missed;
   desk_fault = λ work. told_nowhere _ _ _ (λ e. cc) s.counts.desk;
@@ -605,6 +612,7 @@ promise words answer.SinkFault old new law s c =
     let broken = λ (work : IsQuiet old.sink.faults new.sink.faults).
     no_sink_fault words old new answer.SinkFault work c refl in record {
       exact = λ work memory. absurd (broken work.sink);
+      whole = λ memory sink. absurd (sink refl);
       sink_fault = sink_told answer.SinkFault _ _ c;
       no_file = λ work. absurd (broken work);
       desk_fault = λ work. absurd (broken work);
@@ -638,6 +646,7 @@ promise words answer.SinkFault old new law s c =
       by_failure (inr fails) = left_alike old.store new.store law s.due.act fails.left
 promise words status old new law s c = record {
   exact = λ work memory. reports words old new status s s.answered work;
+  whole = λ memory sink. record { due = s.due; is = s.is; answered = s.answered };
   sink_fault = sink_told status _ _ c;
   no_file = λ work. miss_told status _ _ (counts words old new status s s.answered).missed;
   desk_fault = λ work. desk_told status _ _ (counts words old new status s s.answered).desk;

@@ -12,15 +12,16 @@ use Rattle.bn_model.specs.Opening.{Image}
 use Rattle.bn_model.specs.Reporting.{Files, end_line}
 use Rattle.bn_model.specs.Reporting as said
 use Rattle.bn_model.specs.Running.{Course}
-use Rattle.bn_model.specs.Scripts.{Script}
 use Rattle.bn_model.specs.Spelling.{text_of}
 use Rattle.bn_model.specs.Storing.{Storage, committed, records_in}
 use Rattle.bn_model.specs.WholeReports.{finish_status, refusal_status}
-use Rattle.bn_model.specs.WholeRuns.{Refused, Start, course_of, finish_of, image_in, script_for}
+use Rattle.bn_model.specs.WholeRuns.{Refused, course_of, finish_of, image_in, records_for}
+use Rattle.bn_model.specs.WholeRuns.{script_for}
 use Rattle.bn_model.specs.WholeRuns as whole
 use Rattle.bn_front.specs.declared.named_file.NamedFile.{NamedFile}
 use Rattle.bn_front.specs.declared.named_file.NamedFile.TheVariants as named
 use Rattle.bn_front.specs.Built.{NoTask, Report, Running, Task, Unbuilt, status_meant}
+use Rattle.bn_front.specs.Starts.{Parts, start_from}
 use Rattle.bn_front.specs.Stored.{Act, Commits, FailsInChip, FailsInVault, IsSeen, Leaves}
 use Rattle.bn_front.specs.Stored.{StoreAccount, Tells}
 
@@ -154,28 +155,35 @@ pub record ReadsFile (task : Task) (file : NamedFile) (desk : DeskAccount) : Typ
   pub runs : task ≡ Running order
   pub comes : ComesTo file order desk
 
--- there is a run with a store, which comes to opening it: image and script are accepted
+-- image and script of a run are there and accepted
+pub record AreAccepted (order : RunOrder) (desk : DeskAccount) : Type 0 where
+  pub files : Files
+  pub agrees : AreTold desk.files files
+  pub parts : Parts
+  pub loaded : image_in (4096 * order.ram_pages) (files order.image) ≡ Ok parts.image
+  pub read : script_for order.harts order.script files ≡ Ok parts.script
+
+-- there is a run with a store, which comes to opening it
 pub record OpensStore (task : Task) (desk : DeskAccount) : Type 0 where
   pub order : RunOrder
   pub runs : task ≡ Running order
   pub stored : order.is_stored ≡ true
-  pub files : Files
-  pub agrees : AreTold desk.files files
-  pub image : Image
-  pub loaded : image_in (4096 * order.ram_pages) (files order.image) ≡ Ok image
-  pub script : Script
-  pub read : script_for order.harts order.script files ≡ Ok script
+  pub accepted : AreAccepted order desk
 
--- there is a run that begins, for the files and the storage that are told
+-- there is a run that begins, with the records of the storage that is told
 pub record Begins (task : Task) (desk : DeskAccount) (store : StoreAccount) : Type 0 where
   pub order : RunOrder
   pub runs : task ≡ Running order
-  pub files : Files
-  pub agrees : AreTold desk.files files
-  pub start : Start
-  pub begins :
+  pub accepted : AreAccepted order desk
+  pub records : List Record
+  pub finds :
       (storage : Storage) → IsSeen order.is_stored store storage →
-      whole.start_of order files storage ≡ Ok start
+      records_for order.is_stored storage ≡ Ok records
+
+-- its course
+abbrev pub course_begun : {task : Task} {desk : DeskAccount} {store : StoreAccount}
+    → Begins task desk store → Course
+course_begun run = course_of (start_from run.order run.accepted.parts run.records)
 
 -- ---- what is due
 
@@ -209,7 +217,7 @@ pub record IsOfStore (task : Task) (desk : DeskAccount) (store : StoreAccount) (
 pub record IsOfRun (task : Task) (desk : DeskAccount) (store : StoreAccount) (due : Due)
     : Type 0 where
   pub run : Begins task desk store
-  pub is : due ≡ finished run.order.is_stored (course_of run.start)
+  pub is : due ≡ finished run.order.is_stored (course_begun run)
 
 -- that a file couldn't be read
 pub record IsOfDesk (task : Task) (desk : DeskAccount) (due : Due) : Type 0 where
@@ -228,7 +236,7 @@ pub record IsOfCommit (device : Device) (task : Task) (desk : DeskAccount) (stor
     (due : Due) : Type 0 where
   pub run : Begins task desk store
   pub stored : run.order.is_stored ≡ true
-  pub is : due ≡ unfinished device (course_of run.start)
+  pub is : due ≡ unfinished device (course_begun run)
 
 pub data IsDue (task : Task) (desk : DeskAccount) (store : StoreAccount) (due : Due) : Type 0 where
   OfFiles : IsOfFiles task desk due → IsDue task desk store due

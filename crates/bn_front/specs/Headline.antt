@@ -32,7 +32,8 @@ use Rattle.bn_model.specs.WholeRuns.{Start, course_of}
 use Rattle.bn_front.specs.declared.named_file.NamedFile.{NamedFile}
 use Rattle.bn_front.specs.Built.{Report, report_of, task_of, uses_store}
 use Rattle.bn_front.specs.Due.{AreTold, Begins, Device, Due, IsDue, IsOfCommit, IsOfOpening}
-use Rattle.bn_front.specs.Due.{ReadsFile, TheChip, TheVault, due_text, failed_line, missing_line}
+use Rattle.bn_front.specs.Due.{ReadsFile, TheChip, TheVault, course_begun, due_text, failed_line}
+use Rattle.bn_front.specs.Due.{missing_line}
 use Rattle.bn_front.specs.Starts.{HoldBytes, RunMakes, StoreBytes, start_of}
 use Rattle.bn_front.specs.Stored.{CrashesOpenAlike, IsCommitted, IsLeft, IsSeen, Keeps, StorageStays}
 use Rattle.bn_front.specs.Stored.{StoreAccount, areas_of, store_of}
@@ -86,6 +87,19 @@ pub record WritesReport (words : List (List ℕ)) (status : Status) (old new : O
   pub is :
       (storage : Storage) → IsSeen (uses_store words) old.store storage →
       IsAnswered status storage (report_of words files storage) old new
+
+-- ---- what was due
+
+-- what was due was answered and written whole, and the store is left so
+pub record IsAnswer (status : Status) (due : Due) (old new : Outside) : Type 0 where
+  pub said : due.last.status ≡ status
+  pub written : Writes old.sink new.sink (due_text due)
+  pub left : IsLeft due.act old.store new.store
+
+pub record WritesDue (words : List (List ℕ)) (status : Status) (old new : Outside) : Type 0 where
+  pub due : Due
+  pub is : IsDue (task_of words) old.desk old.store due
+  pub answered : IsAnswer status due old new
 
 -- ---- faults
 
@@ -167,7 +181,7 @@ EndsRun status = ⊥
 -- the records of a run's last state were committed
 pub record CommitsRun (words : List (List ℕ)) (old new : Outside) : Type 0 where
   pub run : Begins (task_of words) old.desk old.store
-  pub committed : IsCommitted (course_of run.start).last.records old.store new.store
+  pub committed : IsCommitted (course_begun run).last.records old.store new.store
 
 -- an area has the register's digest and spells these records
 pub record IsSpelled (storage : Storage) (records : List Record) : Type 0 where
@@ -237,6 +251,8 @@ pub record WriteAlike (one other : Report) (start : Start) (blind : Blind) : Typ
 pub record Promise (words : List (List ℕ)) (status : Status) (old new : Outside) : Type 0 where
   -- where no count of faults rose, the flat machine's report is written, or memory ran out
   pub exact : AllWork words old new → status ≢ Memory → WritesReport words status old new
+  -- whatever vault, chip and desk tell or not, what was due is written, as far as the sink works
+  pub whole : status ≢ Memory → status ≢ SinkFault → WritesDue words status old new
   -- when each fault comes
   pub sink_fault : IsToldBy (status ≡ SinkFault) old.sink.faults new.sink.faults
   pub no_file : SinkWorks old new → IsToldBy (status ≡ NoFile) old.desk.misses new.desk.misses

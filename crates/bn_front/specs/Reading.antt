@@ -9,9 +9,9 @@ use Rattle.bn_edge.specs.Counts.{Rises, Stays}
 use Rattle.bn_edge.specs.Files.{file_named}
 use Rattle.bn_loader.specs.declared.loaded.Loaded.{Loaded}
 use Rattle.bn_model.specs.CommandLines.{RunOrder}
-use Rattle.bn_model.specs.Opening.{Image, opening}
+use Rattle.bn_model.specs.Opening.{Image}
 use Rattle.bn_model.specs.Reporting.{Files, fault_line}
-use Rattle.bn_model.specs.Scripts.{Script, first_events}
+use Rattle.bn_model.specs.Scripts.{Script}
 use Rattle.bn_model.specs.WholeRuns.{◌>>=◌, BadImage, BadScript, NoFile, Refused, Start, image_in}
 use Rattle.bn_model.specs.WholeRuns.{refused, script_for, script_line}
 use Rattle.bn_types.specs.declared.record.Record.{Record}
@@ -21,6 +21,7 @@ use Rattle.bn_front.specs.declared.named_file.NamedFile.TheVariants as named
 use Rattle.bn_front.specs.declared.refusal.Refusal.{Refusal}
 use Rattle.bn_front.specs.declared.refusal.Refusal.TheVariants as refusal
 use Rattle.bn_front.specs.Due.{AreTold, ComesTo, missing_line}
+use Rattle.bn_front.specs.Starts.{Parts, start_from}
 
 -- ---- refusals
 
@@ -56,30 +57,18 @@ CountsMissing result old new = Stays old new
 abbrev pub image_meant : Loaded → Image
 image_meant image = record { bytes = image.bytes.items; entry = image.entry }
 
--- what the files of a run are to come to
-pub record Parts : Type 0 where
-  pub image : Image
-  pub script : Script
-
 abbrev pub parts_meant : Inputs → Parts
 parts_meant inputs = record { image = image_meant inputs.image; script = inputs.script }
 
--- or what refuses it before its store is opened: the image's file, the image, the script's file,
--- the script
+-- what the files of a run come to, or what refuses it before its store is opened: the image's file,
+-- the image, the script's file, the script
 unfoldable pub parts_of : RunOrder → Files → Result Parts Refused
 parts_of order files =
     image_in (4096 * order.ram_pages) (files order.image)
     >>= (λ image. script_for order.harts order.script files
     >>= (λ script. Ok (record { image = image; script = script })))
 
--- where a run begins that has these parts and records
-abbrev pub start_from : RunOrder → Parts → List Record → Start
-start_from order parts records = record {
-  state = opening order.ram_pages order.harts parts.image records;
-  events = first_events order.steps parts.script;
-  blind = order.blind;
-}
-
+-- where a run begins that has these inputs and records
 abbrev pub start_with : RunOrder → Inputs → List Record → Start
 start_with order inputs records = start_from order (parts_meant inputs) records
 

@@ -3,8 +3,12 @@
 use Rattle.std.specs.Prelude.{◌≡◌, ℕ, ◌^◌, ◌<◌, List, Option, Some, None, Result, Ok, Err}
 use Rattle.std.specs.List.{All}
 use Rattle.bn_types.specs.declared.event.Event.{Event}
+use Rattle.bn_types.specs.declared.record.Record.{Record}
+use Rattle.bn_model.specs.CommandLines.{RunOrder}
+use Rattle.bn_model.specs.Opening.{Image, opening}
 use Rattle.bn_model.specs.Reporting.{Files}
 use Rattle.bn_model.specs.Running.{Reaches}
+use Rattle.bn_model.specs.Scripts.{Script, first_events}
 use Rattle.bn_model.specs.State.{State}
 use Rattle.bn_model.specs.Storing.{Storage}
 use Rattle.bn_model.specs.WholeRuns.{Refused, Start}
@@ -12,6 +16,19 @@ use Rattle.bn_model.specs.WholeRuns as whole
 use Rattle.bn_front.specs.Built.{NoTask, Running, Task, Unbuilt, task_of}
 
 -- ---- where it begins
+
+-- what the files of a run come to
+pub record Parts : Type 0 where
+  pub image : Image
+  pub script : Script
+
+-- where a run begins that has these parts and records
+abbrev pub start_from : RunOrder → Parts → List Record → Start
+start_from order parts records = record {
+  state = opening order.ram_pages order.harts parts.image records;
+  events = first_events order.steps parts.script;
+  blind = order.blind;
+}
 
 abbrev pub if_begun : Result Start Refused → Option Start
 if_begun (Ok start) = Some start

@@ -32,7 +32,7 @@ use Rattle.bn_front.specs.Built.{Task}
 use Rattle.bn_front.specs.Due.{Device, Due, IsDue, TheChip, TheVault, act_failed, bad_store}
 use Rattle.bn_front.specs.Due.{desk_failed, due_text, ended, missing_line, no_command, unread}
 use Rattle.bn_front.specs.Due.{unwritten}
-use Rattle.bn_front.specs.Headline.{CountsStay, FailsWithin, Outside}
+use Rattle.bn_front.specs.Headline.{CountsStay, FailsWithin, IsAnswer, Outside}
 use Rattle.bn_front.specs.Reading.{start_with}
 use Rattle.bn_front.specs.Stored.{Act, Commits, IsLeft, StorageStays, StoreAccount, Tells}
 
@@ -243,13 +243,7 @@ pub record Counts (status : Status) (old new : Outside) : Type 0 where
   pub vault : CountsVaultFault status old.store.vault.faults new.store.vault.faults
   pub chip : CountsChipFault status old.store.chip.faults new.store.chip.faults
 
--- what was due was written whole, and the store left as it says
-pub record IsAnswer (status : Status) (due : Due) (old new : Outside) : Type 0 where
-  pub said : due.last.status ≡ status
-  pub written : Writes old.sink new.sink (due_text due)
-  pub left : IsLeft due.act old.store new.store
-
--- or the sink failed within
+-- what was due was answered, or the sink failed within
 abbrev pub AnswersDue : Status → Due → Outside → Outside → Type 0
 AnswersDue answer.SinkFault due old new = FailsWithin due old.store new.store old.sink new.sink
 AnswersDue status due old new = IsAnswer status due old new
