@@ -7,6 +7,6 @@ pub mod Offers
 pub mod PublicPages
 pub mod Runs
 pub mod Switches
-pub mod LeftTurns
+pub mod Storing
 pub mod Turns
 pub mod ZeroedPages

@@ -1,5 +1,5 @@
 -- A run on its way.
-use Rattle.std.proofs.Common.{◌≡◌, ℕ, suc, ◌+◌, ◌-◌, ◌<◌, ◌≤◌, Bool, true, false, List, [], ◌∷◌}
+use Rattle.std.proofs.Common.{◌≡◌, ℕ, suc, ◌+◌, ◌-◌, ◌<◌, ◌≤◌, true, false, List, [], ◌∷◌}
 use Rattle.std.proofs.Common.{◌++◌}
 use Rattle.std.proofs.Common.{Option, Result, Ok, Err, OnErr, length, refl, sym, ap, ◌∙◌}
 use Rattle.std.proofs.Common.{subst, arith}
@@ -7,7 +7,7 @@ use Rattle.std.proofs.lemmas.List.{append_assoc, append-nil}
 use Rattle.std.proofs.lemmas.List.Concat.{flat_map-append}
 use Rattle.bn_edge.specs.Accounts.{SinkAccount}
 use Rattle.bn_edge.specs.Written.{Writes, WritesFront, appended}
-use Rattle.bn_types.specs.declared.ending.Ending.TheVariants.{Shutdown, Limit, Unbuilt}
+use Rattle.bn_types.specs.declared.ending.Ending.TheVariants.{Shutdown, Limit}
 use Rattle.bn_types.specs.declared.event.Event.{Event}
 use Rattle.bn_model.specs.BlankingLaws.{HidesSecrets, TellsNoneOf}
 use Rattle.bn_model.specs.Running.{Blind, Course, Run, course, run, state_before}
@@ -17,15 +17,15 @@ use Rattle.bn_model.specs.Spelling.{spelling, text_of}
 use Rattle.bn_model.specs.Soundness.{IsSound}
 use Rattle.bn_model.specs.State.{State}
 use Rattle.bn_model.specs.Stepping.{Fits, FitsHarts, step, lines}
+use Rattle.bn_model.specs.WholeRuns.{always}
 use Rattle.bn_model.proofs.BeforeLemmas.{clock-before, fit-by, harts-before, off-before}
-use Rattle.bn_model.proofs.RunningLemmas.{course_built, course_none, course_off, course_unbuilt}
+use Rattle.bn_model.proofs.RunningLemmas.{course_built, course_none, course_off}
 use Rattle.bn_model.proofs.RunningLemmas.{run-append, run_on}
 use Rattle.bn_model.proofs.ScriptLemmas.{after-more, events-harts, first-events-fit, first-more}
 use Rattle.bn_model.proofs.ScriptLemmas.{first-split, next-fits}
 use Rattle.bn_model.proofs.SteppingLemmas.{clock_after, harts_after}
 use Rattle.bn_model.proofs.SoundKept.{sound-kept}
 use Rattle.bn_model.proofs.ZeroingLemmas.{hides-in-run}
-use Rattle.bn_machine.specs.Built.{is_built_event}
 use Rattle.bn_machine.specs.Telling.{FinishesRun, IsLeftOf, StopsRun}
 use Rattle.bn_edge.proofs.Wrote.{appended-append, appended-nil}
 
@@ -42,7 +42,7 @@ events_left all limit made = first_events (limit - made) (after_events made all)
 
 -- the course of some events, and its text
 abbrev pub rest_of : Option Blind → State → List Event → Course
-rest_of blind s events = course is_built_event blind s events
+rest_of blind s events = course always blind s events
 
 abbrev pub text_of_rest : Option Blind → State → List Event → List ℕ
 text_of_rest blind s events = text_of (rest_of blind s events).told
@@ -153,19 +153,16 @@ module _ (blind : Option Blind) (start now : State) (all : Script) (limit made :
       e ∷ first_events (limit - (made + 1)) (after_event (after_events made all))) (sym is)
       ∙ ap (λ (t : Script). event ∷ first_events (limit - (made + 1)) t) (sym (after-more made all))
 
-  after_built : is_built_event (before blind now) event ≡ true
-      → rest_of blind now (events_left all limit made)
+  after_made : rest_of blind now (events_left all limit made)
       ≡ (let rest = rest_of blind next left in
       record rest { told = lines (before blind now) event ++ rest.told })
-  after_built built =
-      ap (rest_of blind now) first_left
-      ∙ course_built is_built_event blind now event left underway.on built
+  after_made =
+      ap (rest_of blind now) first_left ∙ course_built always blind now event left underway.on refl
 
-  text_left : is_built_event (before blind now) event ≡ true
-      → text_of_rest blind now (events_left all limit made)
+  text_left : text_of_rest blind now (events_left all limit made)
       ≡ said ++ text_of_rest blind next left
-  text_left built =
-      ap (λ (c : Course). text_of c.told) (after_built built)
+  text_left =
+      ap (λ (c : Course). text_of c.told) after_made
       ∙ flat_map-append spelling (lines (before blind now) event) (rest_of blind next left).told
 
   -- one event more is made
@@ -198,11 +195,10 @@ module _ (blind : Option Blind) (start now : State) (all : Script) (limit made :
   written_more later e = e ∙ ap (λ o. appended o said) underway.told
       ∙ appended-append old.written before_said said
 
-  -- a built event was made, its lines were written, and the machine is still on
-  pub underway_more : (later : SinkAccount) → is_built_event (before blind now) event ≡ true
-      → next.off ≡ false → Writes sink later said
+  -- an event was made, its lines were written, and the machine is still on
+  pub underway_more : (later : SinkAccount) → next.off ≡ false → Writes sink later said
       → IsUnderway blind start next all limit (made + 1) old later
-  underway_more later built on e =
+  underway_more later on e =
       record {
         on = on;
         harts = underway.harts ∙ sym (harts_after (before blind now) event
@@ -211,44 +207,27 @@ module _ (blind : Option Blind) (start now : State) (all : Script) (limit made :
             ∙ ap (λ n. n + 1) (clock-before blind now ∙ underway.clock) ∙ omega arith;
         reached = reached_more;
         told = written_more later e ∙ ap (appended old.written) text_more;
-        ending = underway.ending ∙ ap (λ (c : Course). c.ending) (after_built built);
-        last = underway.last ∙ ap (λ (c : Course). c.last) (after_built built);
-        text = underway.text ∙ ap (λ t. before_said ++ t) (text_left built)
+        ending = underway.ending ∙ ap (λ (c : Course). c.ending) after_made;
+        last = underway.last ∙ ap (λ (c : Course). c.last) after_made;
+        text = underway.text ∙ ap (λ t. before_said ++ t) text_left
             ∙ sym (append_assoc before_said said _)
             ∙ ap (λ t. t ++ text_of_rest blind next left) text_more;
       }
 
   -- it shut the machine down
-  pub finished_off : (later : SinkAccount) → is_built_event (before blind now) event ≡ true
-      → next.off ≡ true → Writes sink later said
+  pub finished_off : (later : SinkAccount) → next.off ≡ true → Writes sink later said
       → FinishesRun (rest_of blind start (first_events limit all)) Shutdown next old later
-  finished_off later built off e =
-      let rest = course_off is_built_event blind next left off in
+  finished_off later off e =
+      let rest = course_off always blind next left off in
       let total : text_of_rest blind start (first_events limit all) ≡ before_said ++ said =
       underway.text ∙ ap (λ t. before_said ++ t)
-      (text_left built ∙ ap (λ (c : Course). said ++ text_of c.told) rest ∙ append-nil said) in
+      (text_left ∙ ap (λ (c : Course). said ++ text_of c.told) rest ∙ append-nil said) in
       record {
-        ending = sym (underway.ending ∙ ap (λ (c : Course). c.ending) (after_built built)
+        ending = sym (underway.ending ∙ ap (λ (c : Course). c.ending) after_made
             ∙ ap (λ (c : Course). c.ending) rest);
-        last = sym (underway.last ∙ ap (λ (c : Course). c.last) (after_built built)
+        last = sym (underway.last ∙ ap (λ (c : Course). c.last) after_made
             ∙ ap (λ (c : Course). c.last) rest);
         written = written_more later e ∙ ap (appended old.written) (sym total);
-      }
-
-  -- it isn't built
-  pub finished_unbuilt : is_built_event (before blind now) event ≡ false
-      → FinishesRun (rest_of blind start (first_events limit all)) Unbuilt (before blind now) old
-      sink
-  finished_unbuilt built =
-      let rest = ap (rest_of blind now) first_left
-      ∙ course_unbuilt is_built_event blind now event left underway.on built in
-      let total : text_of_rest blind start (first_events limit all) ≡ before_said =
-      underway.text ∙ ap (λ (c : Course). before_said ++ text_of c.told) rest
-      ∙ append-nil before_said in
-      record {
-        ending = sym (underway.ending ∙ ap (λ (c : Course). c.ending) rest);
-        last = sym (underway.last ∙ ap (λ (c : Course). c.last) rest);
-        written = underway.told ∙ ap (appended old.written) (sym total);
       }
 
   -- its lines couldn't all be written
@@ -278,17 +257,16 @@ module _ (blind : Option Blind) (start now : State) (all : Script) (limit made :
   }
 
   -- and so a proper front of the whole was written
-  pub front_written : (later : SinkAccount) → is_built_event (before blind now) event ≡ true
-      → WritesFront sink later said
+  pub front_written : (later : SinkAccount) → WritesFront sink later said
       → WritesFront old later (text_of_rest blind start (first_events limit all))
-  front_written later built w = record {
+  front_written later w = record {
     front = before_said ++ w.front;
     rest = w.rest ++ text_of_rest blind next left;
     split = append_assoc before_said w.front _
         ∙ ap (λ t. before_said ++ t)
         (sym (append_assoc w.front w.rest _)
         ∙ ap (λ t. t ++ text_of_rest blind next left) w.split
-        ∙ sym (text_left built))
+        ∙ sym text_left)
         ∙ sym underway.text;
     proper = λ e. w.proper (front_empty w.rest _ e);
     written = w.written ∙ ap (λ o. appended o w.front) underway.told
@@ -307,7 +285,7 @@ unfolding first_events
 finished_limit blind start now all limit made old sink underway e =
     let none : limit - made ≡ 0 = omega arith in
     let rest = ap (λ n. rest_of blind now (first_events n (after_events made all))) none
-    ∙ course_none is_built_event blind now underway.on in
+    ∙ course_none always blind now underway.on in
     let total : text_of_rest blind start (first_events limit all) ≡ text_made blind start all made =
     underway.text
     ∙ ap (λ (c : Course). text_made blind start all made ++ text_of c.told) rest
@@ -327,10 +305,6 @@ pub hidden_in_run : (blind : Option Blind) (start : State) (all : Script) (limit
 hidden_in_run blind start all limit sound orderly same =
     hides-in-run sound-kept blind start (first_events limit all) sound
     (first-events-fit blind limit all start orderly (sym same))
-
-pub false_unless : (b : Bool) → (b ≡ true → false ≡ true) → b ≡ false
-false_unless true no_way = sym (no_way refl)
-false_unless false no_way = refl
 
 pub on_err : {A E P : Type 0} (r : Result A E) → P → OnErr r P
 on_err (Ok x) p = tt

@@ -22,7 +22,6 @@ use Rattle.bn_model.specs.Stepping.{Fits, step}
 use Rattle.bn_model.specs.Switching.{stopped_at}
 use Rattle.bn_model.specs.Walking.{vpn_of}
 use Rattle.bn_model.proofs.SoundKept.{sound-kept}
-use Rattle.bn_machine.specs.declared.unbuilt.Unbuilt.{Unbuilt}
 use Rattle.bn_machine.specs.Costs.{CountsAct, CountsAsked}
 use Rattle.bn_machine.specs.Making.{MakesAsked, MakesTurn, after_write}
 
@@ -33,37 +32,36 @@ fetched s h =
     answer_of_load s.pages B4 (access (memory s) (asker h hart) kind.Fetch hart.pc B4)
 
 -- a word was fetched, and what it asks for was made
-pub made-fetched : (result : Result Unit Unbuilt) (s t new : State) (text : List ℕ) (h word : ℕ)
+pub made-fetched : (s t new : State) (text : List ℕ) (h word : ℕ)
     → t ≡ s → fetched s h ≡ Ok word
-    → MakesAsked result t new text h (asked_of_insn (hart_at t h) (insn_of word))
-    → MakesAsked result s new text h (asked_of_interrupt s h (hart_at s h) None)
-made-fetched result s t new text h word same e made =
-    subst (λ (asked : Asked). MakesAsked result s new text h asked)
+    → MakesAsked t new text h (asked_of_insn (hart_at t h) (insn_of word))
+    → MakesAsked s new text h (asked_of_interrupt s h (hart_at s h) None)
+made-fetched s t new text h word same e made =
+    subst (λ (asked : Asked). MakesAsked s new text h asked)
     (sym (ap (asked_of_fetch s.rows (hart_at s h)) e))
     (subst (λ (t : State).
-    MakesAsked result t new text h (asked_of_insn (hart_at t h) (insn_of word))) same made)
+    MakesAsked t new text h (asked_of_insn (hart_at t h) (insn_of word))) same made)
 
 -- the fetch failed
 pub made-unfetched : (s t new : State) (text : List ℕ) (h : ℕ)
     (fault : Fault) → t ≡ s → fetched s h ≡ Err fault
-    → MakesAsked (Ok tt) t new text h (asked_of_fault (hart_at t h).current.0 t.rows (hart_at t
+    → MakesAsked t new text h (asked_of_fault (hart_at t h).current.0 t.rows (hart_at t
     h) fault)
-    → MakesAsked (Ok tt) s new text h (asked_of_interrupt s h (hart_at s h) None)
+    → MakesAsked s new text h (asked_of_interrupt s h (hart_at s h) None)
 made-unfetched s t new text h fault same e made =
-    subst (λ (asked : Asked). MakesAsked (Ok tt) s new text h asked)
+    subst (λ (asked : Asked). MakesAsked s new text h asked)
     (sym (ap (asked_of_fetch s.rows (hart_at s h)) e))
     (subst (λ (t : State).
-    MakesAsked (Ok tt) t new text h (asked_of_fault (hart_at t h).current.0 t.rows (hart_at t h)
+    MakesAsked t new text h (asked_of_fault (hart_at t h).current.0 t.rows (hart_at t h)
     fault))
     same made)
 
 -- a turn keeps soundness
-pub sound-turn : (result : Result Unit Unbuilt) (s new : State) (text : List ℕ) (h : ℕ)
-    → h < length s.harts → IsSound s → MakesTurn result s new text h → IsSound new
+pub sound-turn : (s new : State) (text : List ℕ) (h : ℕ)
+    → h < length s.harts → IsSound s → MakesTurn s new text h → IsSound new
 unfolding step
-sound-turn (Ok done) s new text h within sound made =
+sound-turn s new text h within sound made =
     subst IsSound (sym made.stepped) (sound-kept s (Turn h) within sound)
-sound-turn (Err unbuilt) s new text h within sound left = subst IsSound (sym left.same) sound
 
 -- ---- table words
 

@@ -1,5 +1,4 @@
 pub mod Acts
-pub mod Built
 pub mod Costs
 pub mod Harts
 pub mod Loads

@@ -1,6 +1,7 @@
--- What a turn's methods come to: the decision is made, or it isn't built and nothing changes.
-use Rattle.std.specs.Prelude.{◌≡◌, ℕ, suc, ◌<◌, ℤ, true, false, List, [], Result, Ok, Err}
+-- What a turn's methods come to: a decision is made.
+use Rattle.std.specs.Prelude.{◌≡◌, ℕ, suc, ◌<◌, ℤ, List, Result, Ok, Err}
 use Rattle.bn_types.specs.declared.act.Act.{Act}
+use Rattle.bn_types.specs.declared.digest.Digest.{Digest}
 use Rattle.bn_types.specs.declared.event.Event.{Event}
 use Rattle.bn_types.specs.declared.event.Event.TheVariants.{Turn}
 use Rattle.bn_types.specs.declared.gpn.Gpn.{Gpn}
@@ -8,6 +9,7 @@ use Rattle.bn_types.specs.declared.reg.Reg.{Reg}
 use Rattle.bn_types.specs.declared.request.Request.TheVariants as request
 use Rattle.bn_model.specs.Deciding.{decision_of, decision_of_act, decision_of_asked}
 use Rattle.bn_model.specs.Decision.{Asked, Decision, Evict, Refuse}
+use Rattle.bn_model.specs.Records.{set_word}
 use Rattle.bn_model.specs.Refusals.{minus}
 use Rattle.bn_model.specs.Spelling.{text_of}
 use Rattle.bn_model.specs.Rows.{with_row}
@@ -18,8 +20,6 @@ use Rattle.bn_model.specs.Switching.{row_after_stop}
 use Rattle.bn_table.specs.Evictions.{evict_code}
 use Rattle.bn_table.specs.declared.evict_refused.EvictRefused.{EvictRefused}
 use Rattle.bn_switch.specs.declared.context.Context.{Context}
-use Rattle.bn_machine.specs.declared.unbuilt.Unbuilt.{Unbuilt}
-use Rattle.bn_machine.specs.Built.{is_built_turn}
 use Rattle.bn_machine.specs.Harts.{hart_in_context}
 
 -- the state after hart h's turn that comes to this, and the text of its lines
@@ -31,33 +31,21 @@ text_after s h d = text_of (lines_of_turn s.clock s.next h (hart_at s h) d)
 
 -- the decision is made
 pub record IsMade (old new : State) (text : List ℕ) (h : ℕ) (d : Decision) : Type 0 where
-  pub built : is_built_turn d ≡ true
   pub stepped : new ≡ state_after old h d
   pub told : text ≡ text_after old h d
 
--- it isn't built: nothing changes, and no line is left
-pub record IsLeft (old new : State) (text : List ℕ) (d : Decision) : Type 0 where
-  pub unbuilt : is_built_turn d ≡ false
-  pub same : new ≡ old
-  pub empty : text ≡ []
+-- what is asked of hart h is made
+abbrev pub MakesAsked : (old new : State) → List ℕ → ℕ → Asked → Type 0
+MakesAsked old new text h asked =
+    IsMade old new text h (decision_of_asked old h (hart_at old h) asked)
 
-abbrev pub Makes : Result Unit Unbuilt → (old new : State) → List ℕ → ℕ → Decision → Type 0
-Makes (Ok made) old new text h d = IsMade old new text h d
-Makes (Err unbuilt) old new text h d = IsLeft old new text d
+-- what its instruction asks for is made
+abbrev pub MakesAct : (old new : State) → List ℕ → ℕ → Act → Type 0
+MakesAct old new text h act = IsMade old new text h (decision_of_act old h (hart_at old h) act)
 
--- what is asked of hart h is made, or isn't built
-abbrev pub MakesAsked : Result Unit Unbuilt → (old new : State) → List ℕ → ℕ → Asked → Type 0
-MakesAsked result old new text h asked =
-    Makes result old new text h (decision_of_asked old h (hart_at old h) asked)
-
--- what its instruction asks for is made, or isn't built
-abbrev pub MakesAct : Result Unit Unbuilt → (old new : State) → List ℕ → ℕ → Act → Type 0
-MakesAct result old new text h act =
-    Makes result old new text h (decision_of_act old h (hart_at old h) act)
-
--- a turn of hart h is made, or isn't built
-abbrev pub MakesTurn : Result Unit Unbuilt → (old new : State) → List ℕ → ℕ → Type 0
-MakesTurn result old new text h = Makes result old new text h (decision_of old h)
+-- a turn of hart h is made
+abbrev pub MakesTurn : (old new : State) → List ℕ → ℕ → Type 0
+MakesTurn old new text h = IsMade old new text h (decision_of old h)
 
 -- the state after the module that hart h runs is stopped
 abbrev pub state_after_stop : State → ℕ → State
@@ -82,6 +70,10 @@ pub record IsRefusalCode (code : ℤ) : Type 0 where
 abbrev pub decision_by_refusal : Reg → (id count : ℕ) → Result ℕ EvictRefused → Decision
 decision_by_refusal rd id count (Ok number) = Evict rd id count
 decision_by_refusal rd id count (Err refusal) = Refuse rd request.Evict (evict_code refusal)
+
+-- the state after a word of an identity is stored, but for the hart and the clock
+abbrev pub after_set : State → Digest → (index value : ℕ) → State
+after_set s who index value = record s { records = set_word s.records who index value }
 
 -- an event of a device, and of no hart
 abbrev pub IsOfDevice : Event → Type 0

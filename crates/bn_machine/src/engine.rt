@@ -6,6 +6,7 @@ ghost use Rattle.bn_unit.specs.Memory.{memory_of};
 
 use crate::hart::Hart;
 use arrayvec::ArrayVec;
+use bn_store::Store;
 use bn_table::Table;
 use bn_types::ModId;
 use bn_unit::Unit;
@@ -21,11 +22,12 @@ mod making;
 mod offering;
 mod reaching;
 mod secure;
+mod storing;
 mod switching;
 mod turning;
 
-/// The parts of a machine: memory, live modules, harts, keys and the clock, and how events are made
-/// over them.
+/// The parts of a machine: memory, live modules, harts, keys, stored words and the clock, and how
+/// events are made over them.
 #[derive(Drop)]
 pub(crate) struct Engine {
     unit: Unit,
@@ -33,12 +35,13 @@ pub(crate) struct Engine {
     harts: Vec<Hart>,
     /// The keys that wait, the oldest one first.
     keys: ArrayVec<u8, 256>,
+    /// The words that modules keep beyond their lives.
+    store: Store,
     clock: u64,
     off: bool,
 }
 
 impl Model for Engine {
-    ghost use Rattle.std.specs.Prelude.{[]};
     ghost use Rattle.bn_machine.specs.Standing.{HasParts, Standing, standing};
 
     ghost Value = { Standing };
@@ -47,7 +50,7 @@ impl Model for Engine {
       nest = e.unit.nest;
       harts = e.harts.items;
       rows = e.table.rows;
-      records = [];
+      records = e.store;
       keys = e.keys.items;
       next = e.table.next;
       clock = e.clock;
@@ -60,7 +63,7 @@ impl Model for Engine {
 impl Engine {
     /// The parts of a machine that has made no event and launched no module.
     #[tactic(auto, unfolding(bn_model::specs::Rows::owners))]
-    pub(crate) fn of(unit: Unit, harts: Vec<Hart>) -> Engine
+    pub(crate) fn of(unit: Unit, harts: Vec<Hart>, store: Store) -> Engine
         requires some { 0 < length harts.items }
         requires unowned { unit.live ≡ [] }
         ensures nest { result.parts.nest ≡ unit.nest }
@@ -68,7 +71,7 @@ impl Engine {
           pages = contents unit.nest;
           harts = harts.items;
           rows = [];
-          records = [];
+          records = store;
           keys = [];
           next = 1;
           clock = 0;
@@ -82,6 +85,7 @@ impl Engine {
             table: Table::empty(),
             harts,
             keys: ArrayVec::new(),
+            store,
             clock: 0,
             off: false,
         }
@@ -99,6 +103,13 @@ impl Engine {
         ensures { result ≡ self.now.state.clock }
     {
         self.clock
+    }
+
+    /// The words that modules keep beyond their lives.
+    pub(crate) fn stored_words(&self) -> &Store
+        ensures { result.now ≡ self.now.state.records }
+    {
+        &self.store
     }
 
     /// The guest's memory.

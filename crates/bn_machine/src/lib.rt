@@ -5,7 +5,6 @@ pub use bn_trace::LineBuf;
 pub use bn_types::Ending;
 pub use machine::Machine;
 pub use settings::Settings;
-pub use unbuilt::Unbuilt;
 
 mod engine;
 mod hart;
@@ -13,4 +12,3 @@ mod machine;
 mod settings;
 #[cfg(test)]
 mod tests;
-mod unbuilt;

@@ -1,6 +1,7 @@
 ghost use Rattle.std.specs.Prelude.{◌≡◌};
 
 use crate::engine::Engine;
+use bn_store::Store;
 use std::marker::Model;
 
 mod blanking;
@@ -33,6 +34,13 @@ impl Machine {
         ensures { result ≡ self.now.state.off }
     {
         self.engine.is_off()
+    }
+
+    /// The words that modules keep beyond their lives.
+    pub fn store(&self) -> &Store
+        ensures { result.now ≡ self.now.state.records }
+    {
+        self.engine.stored_words()
     }
 
     /// How many events were made.

@@ -1,3 +1,4 @@
 mod devices;
 mod memory_unit;
 mod sizes;
+mod stored_words;

@@ -29,6 +29,15 @@ impl Model for Store {
 }
 
 impl Store {
+    /// What holds of every store: at most 64 identities, which ascend strictly, with 32 words of 64
+    /// bits for each. It does nothing.
+    pub fn facts(&self)
+        ensures { AreRecords self.now }
+    {
+        // For the prover: reading a field tells what the invariant says of it.
+        let _records = &self.records;
+    }
+
     /// A store without words, with room for all.
     pub fn empty(alloc: Global) -> Result<Store, NoMemory>
         ensures { IfOk result (λ store. store ≡ []) }

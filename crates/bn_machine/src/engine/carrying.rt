@@ -13,12 +13,12 @@ ghost use Rattle.bn_model.specs.Soundness.{IsSound};
 ghost use Rattle.bn_model.specs.State.{asker, hart_at, memory};
 ghost use Rattle.bn_machine.specs.Acts.{IsSystem, decision_outside};
 ghost use Rattle.bn_machine.specs.Costs.{CountsAct};
-ghost use Rattle.bn_machine.specs.Making.{IsMade, Makes, MakesAct};
+ghost use Rattle.bn_machine.specs.Making.{IsMade, MakesAct};
 ghost use Rattle.rv_csr.specs.Outcomes.{DoesCsr};
 
+use crate::LineBuf;
 use crate::engine::Engine;
 use crate::engine::turning::ILLEGAL_INSTRUCTION;
-use crate::{LineBuf, Unbuilt};
 use bn_types::{Act, Cause, Fault, Kind, Mode, Reg, Steps, Width};
 use rv_csr::{CsrAsked, Csrs, Illegal};
 use rv_exec::extend;
@@ -34,76 +34,58 @@ impl Engine {
         act: Act,
         lines: &mut LineBuf,
         steps: &mut Steps<L>,
-    ) -> Result<(), Unbuilt>
+    )
         requires sound { IsSound self.old.state }
         requires hart { h < length self.old.state.harts }
         requires clock { self.old.state.clock < 2 ^ 64 - 1 }
         requires range { IsActInRange act }
         requires empty { lines.old ≡ [] }
-        ensures made { MakesAct result self.old.state self.new.state lines.new h act }
+        ensures made { MakesAct self.old.state self.new.state lines.new h act }
         ensures few { CountsAct act 15 steps.old steps.new }
     {
         match act {
-            Act::Set { rd, value } => {
-                self.set(h, rd, value);
-                Ok(())
-            }
-            Act::Jump { target, rd, link } => {
-                self.jump(h, target, rd, link);
-                Ok(())
-            }
-            Act::Next => {
-                self.go_on(h);
-                Ok(())
-            }
+            Act::Set { rd, value } => self.set(h, rd, value),
+            Act::Jump { target, rd, link } => self.jump(h, target, rd, link),
+            Act::Next => self.go_on(h),
             Act::LoadAt {
                 va,
                 width,
                 signed,
                 rd,
-            } => {
-                self.load(h, va, width, signed, rd, lines, steps);
-                Ok(())
-            }
-            Act::StoreAt { va, width, value } => {
-                self.store(h, va, width, value, lines, steps);
-                Ok(())
-            }
+            } => self.load(h, va, width, signed, rd, lines, steps),
+            Act::StoreAt { va, width, value } => self.store(h, va, width, value, lines, steps),
             Act::Bastion(secure) => self.carry_out_secure(h, &secure, lines, steps),
-            Act::Trap { cause, value } => {
-                self.trap(h, cause, value, lines);
-                Ok(())
-            }
+            Act::Trap { cause, value } => self.trap(h, cause, value, lines),
             _ => self.carry_out_system(h, act, lines),
         }
     }
 
     /// An instruction of opcode SYSTEM, which is illegal in a module.
     #[tactic(auto, using(crate::proofs::Inside::system_inside, crate::proofs::Inside::system_outside))]
-    fn carry_out_system(&mut self, h: u8, act: Act, lines: &mut LineBuf) -> Result<(), Unbuilt>
+    fn carry_out_system(&mut self, h: u8, act: Act, lines: &mut LineBuf)
         requires sound { IsSound self.old.state }
         requires hart { h < length self.old.state.harts }
         requires clock { self.old.state.clock < 2 ^ 64 - 1 }
         requires range { IsActInRange act }
         requires system { IsSystem act }
         requires empty { lines.old ≡ [] }
-        ensures made { MakesAct result self.old.state self.new.state lines.new h act }
+        ensures made { MakesAct self.old.state self.new.state lines.new h act }
     {
         if self.harts[h as usize].is_inside() {
             self.trap(h, ILLEGAL_INSTRUCTION, 0, lines);
-            return Ok(());
+            return;
         }
         self.carry_out_outside(h, act, lines)
     }
 
-    fn carry_out_outside(&mut self, h: u8, act: Act, lines: &mut LineBuf) -> Result<(), Unbuilt>
+    fn carry_out_outside(&mut self, h: u8, act: Act, lines: &mut LineBuf)
         requires sound { IsSound self.old.state }
         requires hart { h < length self.old.state.harts }
         requires clock { self.old.state.clock < 2 ^ 64 - 1 }
         requires range { IsActInRange act }
         requires system { IsSystem act }
         requires empty { lines.old ≡ [] }
-        ensures made { let s = self.old.state in Makes result s self.new.state lines.new h
+        ensures made { let s = self.old.state in IsMade s self.new.state lines.new h
             (decision_outside s h (hart_at s h) act) }
     {
         match act {
@@ -130,7 +112,6 @@ impl Engine {
             Act::Wfi | Act::SfenceVma => self.go_on_or_trap(h, lines),
             _ => unreachable!(),
         }
-        Ok(())
     }
 
     #[inline(never)]

@@ -1,22 +1,20 @@
 //! The secure instructions, each where it is legal.
-ghost use Rattle.std.specs.Prelude.{◌≡◌, ◌+◌, ◌*◌, ◌-◌, ◌^◌, ◌<◌, ◌≤◌, ℕ, [], length, nat_lt};
+ghost use Rattle.std.specs.Prelude.{◌≡◌, ◌+◌, ◌*◌, ◌-◌, ◌^◌, ◌<◌, ◌≤◌, [], length, nat_lt};
 ghost use Rattle.std.specs.Option.{option_copied};
 ghost use Rattle.bn_types.specs.Numbers.{number_at};
-ghost use Rattle.bn_types.specs.declared.digest.Digest.{Digest};
 ghost use Rattle.bn_types.specs.declared.width.Width.TheVariants.{B8};
 ghost use Rattle.bn_model.specs.Deciding.{caller_of, decision_of_secure};
 ghost use Rattle.bn_model.specs.Deciding.{enclave_at, identity_word, word_if};
 ghost use Rattle.bn_model.specs.InsnRanges.{IsSecureInRange};
-ghost use Rattle.bn_model.specs.Records.{get_word};
 ghost use Rattle.bn_model.specs.Rows.{enclaves, row_of};
 ghost use Rattle.bn_model.specs.Soundness.{IsSound};
 ghost use Rattle.bn_model.specs.State.{hart_at, value_of};
 ghost use Rattle.bn_machine.specs.Acts.{IsForKernel, IsForModules};
-ghost use Rattle.bn_machine.specs.Making.{Makes};
+ghost use Rattle.bn_machine.specs.Making.{IsMade};
 
+use crate::LineBuf;
 use crate::engine::Engine;
 use crate::engine::turning::ILLEGAL_INSTRUCTION;
-use crate::{LineBuf, Unbuilt};
 use bn_table::Table;
 use bn_types::{Digest, ModId, Reg, Row, Secure, Steps};
 use std::sync::ledger::Ledger;
@@ -30,26 +28,24 @@ impl Engine {
         secure: &Secure,
         lines: &mut LineBuf,
         steps: &mut Steps<L>,
-    ) -> Result<(), Unbuilt>
+    )
         requires sound { IsSound self.old.state }
         requires hart { h < length self.old.state.harts }
         requires clock { self.old.state.clock < 2 ^ 64 - 1 }
         requires range { IsSecureInRange secure.now }
         requires empty { lines.old ≡ [] }
-        ensures made { let s = self.old.state in Makes result self.old.state self.new.state
+        ensures made { let s = self.old.state in IsMade self.old.state self.new.state
             lines.new h (decision_of_secure s (hart_at s h) secure.now) }
     {
         match secure {
             Secure::Call { rd, id, entry } => {
                 let (id, entry) = (self.register(h, *id), self.register(h, *entry));
                 self.call(h, *rd, id, entry, lines);
-                Ok(())
             }
             Secure::Ident { rd, id, word } => {
                 let (id, word) = (self.register(h, *id), self.register(h, *word));
                 let value = self.identity_word(id, word);
                 self.set(h, *rd, value);
-                Ok(())
             }
             Secure::Launch { .. } | Secure::Evict { .. } => {
                 self.carry_out_for_kernel(h, secure, lines, steps)
@@ -66,89 +62,71 @@ impl Engine {
         secure: &Secure,
         lines: &mut LineBuf,
         steps: &mut Steps<L>,
-    ) -> Result<(), Unbuilt>
+    )
         requires sound { IsSound self.old.state }
         requires hart { h < length self.old.state.harts }
         requires clock { self.old.state.clock < 2 ^ 64 - 1 }
         requires range { IsSecureInRange secure.now }
         requires kernel { IsForKernel secure.now }
         requires empty { lines.old ≡ [] }
-        ensures made { let s = self.old.state in Makes result self.old.state self.new.state
+        ensures made { let s = self.old.state in IsMade self.old.state self.new.state
             lines.new h (decision_of_secure s (hart_at s h) secure.now) }
     {
         if self.harts[h as usize].is_inside() {
             self.trap(h, ILLEGAL_INSTRUCTION, 0, lines);
-            return Ok(());
+            return;
         }
         match secure {
             Secure::Launch { rd, at } => {
                 let at = self.register(h, *at);
                 self.launch_or_trap(h, *rd, at, lines, steps);
-                Ok(())
             }
             Secure::Evict { rd, id } => {
                 let id = self.register(h, *id);
                 self.evict_or_trap(h, *rd, id, lines, steps);
-                Ok(())
             }
             _ => unreachable!(),
         }
     }
 
-    /// What a module alone may ask for. Storing words isn't built yet.
-    #[tactic(auto, using(crate::proofs::Inside::legal_inside, crate::proofs::Inside::modules_outside, crate::proofs::LeftTurns::set_unbuilt))]
-    fn carry_out_inside(
-        &mut self,
-        h: u8,
-        secure: &Secure,
-        lines: &mut LineBuf,
-    ) -> Result<(), Unbuilt>
+    /// What a module alone may ask for.
+    #[tactic(auto, using(crate::proofs::Inside::legal_inside, crate::proofs::Inside::modules_outside))]
+    fn carry_out_inside(&mut self, h: u8, secure: &Secure, lines: &mut LineBuf)
         requires sound { IsSound self.old.state }
         requires hart { h < length self.old.state.harts }
         requires clock { self.old.state.clock < 2 ^ 64 - 1 }
         requires range { IsSecureInRange secure.now }
         requires inside { IsForModules secure.now }
         requires empty { lines.old ≡ [] }
-        ensures made { let s = self.old.state in Makes result self.old.state self.new.state
+        ensures made { let s = self.old.state in IsMade self.old.state self.new.state
             lines.new h (decision_of_secure s (hart_at s h) secure.now) }
     {
         if !self.harts[h as usize].is_inside() {
             self.trap(h, ILLEGAL_INSTRUCTION, 0, lines);
-            return Ok(());
+            return;
         }
         match secure {
-            Secure::Ret => {
-                self.ret(h, lines);
-                Ok(())
-            }
+            Secure::Ret => self.ret(h, lines),
             Secure::Caller { rd } => {
                 let caller = self.caller(h);
                 self.set(h, *rd, u64::from(caller.0));
-                Ok(())
             }
             Secure::Offerer { rd, at } => {
                 let at = self.register(h, *at);
                 let offerer = self.offerer(h, at);
                 self.set(h, *rd, offerer);
-                Ok(())
             }
-            Secure::Sget { rd, .. } => {
-                let word = self.stored_word();
+            Secure::Sget { rd, index } => {
+                let index = self.register(h, *index);
+                let word = self.stored_word(h, index);
                 self.set(h, *rd, word);
-                Ok(())
             }
-            _ => Err(Unbuilt),
+            Secure::Sset { rd, index, value } => {
+                let (index, value) = (self.register(h, *index), self.register(h, *value));
+                self.set_stored_word(h, *rd, index, value, lines);
+            }
+            _ => unreachable!(),
         }
-    }
-
-    /// A stored word. None is kept yet.
-    #[tactic(auto, using(crate::proofs::LeftTurns::no_word))]
-    fn stored_word(&self) -> u64
-        ensures { (who : Digest) (index : ℕ) → result ≡ get_word self.now.state.records who index }
-    {
-        // For the prover: reading a field tells what stands for the state.
-        let _clock = self.clock;
-        0
     }
 
     /// What hart h's register holds.

@@ -15,8 +15,8 @@ ghost use Rattle.bn_machine.specs.Costs.{CountsAsked, CountsTurn};
 ghost use Rattle.bn_machine.specs.Making.{IsMade, MakesAsked, MakesTurn};
 ghost use Rattle.bn_machine.specs.Standing.{MayResume};
 
+use crate::LineBuf;
 use crate::engine::Engine;
-use crate::{LineBuf, Unbuilt};
 use bn_types::{Act, Cause, Fault, Gpn, Insn, Kind, ModId, Steps, Vpn};
 use rv_csr::Wires;
 use rv_exec::act;
@@ -27,19 +27,14 @@ use std::sync::ledger::Ledger;
 pub(super) const ILLEGAL_INSTRUCTION: Cause = Cause(2);
 
 impl Engine {
-    /// A turn of hart h, which leaves its lines; or it isn't built, and nothing changes.
+    /// A turn of hart h, which leaves its lines.
     #[tactic(auto, unfolding(bn_model::specs::Deciding::decision_of, crate::specs::Costs::CountsTurn))]
-    pub(crate) fn take_turn<L: Ledger>(
-        &mut self,
-        h: u8,
-        lines: &mut LineBuf,
-        steps: &mut Steps<L>,
-    ) -> Result<(), Unbuilt>
+    pub(crate) fn take_turn<L: Ledger>(&mut self, h: u8, lines: &mut LineBuf, steps: &mut Steps<L>)
         requires sound { IsSound self.old.state }
         requires hart { h < length self.old.state.harts }
         requires clock { self.old.state.clock < 2 ^ 64 - 1 }
         requires empty { lines.old ≡ [] }
-        ensures made { MakesTurn result self.old.state self.new.state lines.new h }
+        ensures made { MakesTurn self.old.state self.new.state lines.new h }
         ensures sound { IsSound self.new.state }
         ensures few { let s = self.old.state in
             CountsTurn s h (hart_at s h) 30 steps.old steps.new }
@@ -47,18 +42,13 @@ impl Engine {
         self.make_turn(h, lines, steps)
     }
 
-    fn make_turn<L: Ledger>(
-        &mut self,
-        h: u8,
-        lines: &mut LineBuf,
-        steps: &mut Steps<L>,
-    ) -> Result<(), Unbuilt>
+    fn make_turn<L: Ledger>(&mut self, h: u8, lines: &mut LineBuf, steps: &mut Steps<L>)
         requires sound { IsSound self.old.state }
         requires hart { h < length self.old.state.harts }
         requires clock { self.old.state.clock < 2 ^ 64 - 1 }
         requires empty { lines.old ≡ [] }
         ensures made { let s = self.old.state in
-            MakesAsked result self.old.state self.new.state lines.new h
+            MakesAsked self.old.state self.new.state lines.new h
             (asked_of s h (hart_at s h)) }
         ensures few { let s = self.old.state in
             CountsAsked (asked_of s h (hart_at s h)) 30 steps.old steps.new }
@@ -67,31 +57,22 @@ impl Engine {
             self.interrupt_or_go_on(h, lines, steps)
         } else {
             self.rest();
-            Ok(())
         }
     }
 
-    fn interrupt_or_go_on<L: Ledger>(
-        &mut self,
-        h: u8,
-        lines: &mut LineBuf,
-        steps: &mut Steps<L>,
-    ) -> Result<(), Unbuilt>
+    fn interrupt_or_go_on<L: Ledger>(&mut self, h: u8, lines: &mut LineBuf, steps: &mut Steps<L>)
         requires sound { IsSound self.old.state }
         requires hart { h < length self.old.state.harts }
         requires clock { self.old.state.clock < 2 ^ 64 - 1 }
         requires empty { lines.old ≡ [] }
         ensures made { let s = self.old.state in
-            MakesAsked result self.old.state self.new.state lines.new h
+            MakesAsked self.old.state self.new.state lines.new h
             (asked_if_started true s h (hart_at s h)) }
         ensures few { let s = self.old.state in
             CountsAsked (asked_if_started true s h (hart_at s h)) 30 steps.old steps.new }
     {
         match self.interrupt(h) {
-            Some(cause) => {
-                self.trap(h, cause, 0, lines);
-                Ok(())
-            }
+            Some(cause) => self.trap(h, cause, 0, lines),
             None => self.fetch_and_execute(h, lines, steps),
         }
     }
@@ -123,28 +104,20 @@ impl Engine {
         h == 0 && !self.keys.is_empty()
     }
 
-    fn fetch_and_execute<L: Ledger>(
-        &mut self,
-        h: u8,
-        lines: &mut LineBuf,
-        steps: &mut Steps<L>,
-    ) -> Result<(), Unbuilt>
+    fn fetch_and_execute<L: Ledger>(&mut self, h: u8, lines: &mut LineBuf, steps: &mut Steps<L>)
         requires sound { IsSound self.old.state }
         requires hart { h < length self.old.state.harts }
         requires clock { self.old.state.clock < 2 ^ 64 - 1 }
         requires empty { lines.old ≡ [] }
         ensures made { let s = self.old.state in
-            MakesAsked result self.old.state self.new.state lines.new h
+            MakesAsked self.old.state self.new.state lines.new h
             (asked_of_interrupt s h (hart_at s h) None) }
         ensures few { let s = self.old.state in
             CountsAsked (asked_of_interrupt s h (hart_at s h) None) 30 steps.old steps.new }
     {
         match self.fetch(h, steps) {
             Ok(word) => self.execute(h, word, lines, steps),
-            Err(fault) => {
-                self.fail_fetch(h, &fault, lines);
-                Ok(())
-            }
+            Err(fault) => self.fail_fetch(h, &fault, lines),
         }
     }
 
@@ -203,29 +176,20 @@ impl Engine {
         self.table.stopped_at(page, Vpn(pc / 4096), pc, hart.mode())
     }
 
-    fn execute<L: Ledger>(
-        &mut self,
-        h: u8,
-        word: u32,
-        lines: &mut LineBuf,
-        steps: &mut Steps<L>,
-    ) -> Result<(), Unbuilt>
+    fn execute<L: Ledger>(&mut self, h: u8, word: u32, lines: &mut LineBuf, steps: &mut Steps<L>)
         requires sound { IsSound self.old.state }
         requires hart { h < length self.old.state.harts }
         requires clock { self.old.state.clock < 2 ^ 64 - 1 }
         requires empty { lines.old ≡ [] }
         ensures made { let hart = hart_at self.old.state h in
-            MakesAsked result self.old.state self.new.state lines.new h
+            MakesAsked self.old.state self.new.state lines.new h
             (asked_of_insn hart (insn_of word)) }
         ensures few { let hart = hart_at self.old.state h in
             CountsAsked (asked_of_insn hart (insn_of word)) 15 steps.old steps.new }
     {
         match decode(word) {
             Some(insn) => self.execute_insn(h, &insn, lines, steps),
-            None => {
-                self.trap(h, ILLEGAL_INSTRUCTION, 0, lines);
-                Ok(())
-            }
+            None => self.trap(h, ILLEGAL_INSTRUCTION, 0, lines),
         }
     }
 
@@ -235,14 +199,14 @@ impl Engine {
         insn: &Insn,
         lines: &mut LineBuf,
         steps: &mut Steps<L>,
-    ) -> Result<(), Unbuilt>
+    )
         requires sound { IsSound self.old.state }
         requires hart { h < length self.old.state.harts }
         requires clock { self.old.state.clock < 2 ^ 64 - 1 }
         requires range { IsInRange insn.now }
         requires empty { lines.old ≡ [] }
         ensures made { let hart = hart_at self.old.state h in
-            MakesAsked result self.old.state self.new.state lines.new h
+            MakesAsked self.old.state self.new.state lines.new h
             (asked_of_insn hart (Some insn.now)) }
         ensures few { let hart = hart_at self.old.state h in
             CountsAsked (asked_of_insn hart (Some insn.now)) 15 steps.old steps.new }

@@ -4,6 +4,7 @@ ghost use Rattle.std.specs.Prelude.{Some, false, IfOk, OnOk, length, replicate, 
 ghost use Rattle.bn_types.specs.Numbers.{page_at, zero_page};
 ghost use Rattle.bn_model.specs.Nesting.{contents, place, table_frames};
 ghost use Rattle.bn_model.specs.Opening as flat;
+ghost use Rattle.bn_model.specs.Records.{AreRecords};
 ghost use Rattle.bn_model.specs.Standing.{StandsFor};
 ghost use Rattle.bn_machine.specs.Loads.{opening_of};
 ghost use Rattle.bn_unit.specs.Memory.{AllPlaced};
@@ -14,6 +15,7 @@ use crate::hart::Hart;
 use crate::machine::Machine;
 use bn_frames::Frames;
 use bn_loader::Loaded;
+use bn_store::Store;
 use bn_types::{Frame, Gpn, NoMemory, Width};
 use bn_unit::Unit;
 use n_walk::{Nest, PoolEmpty};
@@ -26,17 +28,22 @@ const ZEROS: [u8; 4096] = [0; 4096];
 const SPARE_FRAMES: u32 = 16;
 
 impl Machine {
-    /// The machine with the image in its RAM and hart 0 at the image's entry.
+    /// The machine with the image in its RAM, hart 0 at the image's entry, and the stored words.
     #[tactic(auto, unfolding(bn_model::specs::Opening::opening))]
-    pub fn boot(alloc: Global, settings: Settings, image: &Loaded) -> Result<Machine, NoMemory>
+    pub fn boot(
+        alloc: Global,
+        settings: Settings,
+        image: &Loaded,
+        store: Store,
+    ) -> Result<Machine, NoMemory>
         requires pages { (0 < settings.ram_pages) × (settings.ram_pages ≤ 4096) }
         requires harts { (0 < settings.harts) × (settings.harts ≤ 4) }
         requires whole { length image.now.bytes.items ≡ 4096 * settings.ram_pages }
         requires entry { image.now.entry % 4 ≡ 0 }
         ensures opens { IfOk result (λ machine. machine.state
-            ≡ opening_of settings image.now) }
+            ≡ opening_of settings image.now store) }
         ensures stands { IfOk result (λ machine. StandsFor machine.parts
-            (opening_of settings image.now)) }
+            (opening_of settings image.now store)) }
         // Each page has a frame. Beside them are the tables' frames and 16 to spare.
         ensures placed { IfOk result (λ machine. AllPlaced machine.parts.nest) }
         ensures frames { IfOk result (λ machine. length machine.parts.nest.frames
@@ -46,7 +53,9 @@ impl Machine {
         let nest = place_image(frames, settings.ram_pages, &image.bytes);
         let unit = Unit::build(alloc, nest, settings.ram_pages, settings.harts)?;
         let harts = start_harts(alloc, settings.harts, image.entry)?;
-        let engine = Engine::of(unit, harts);
+        // For the prover: what holds of every store.
+        store.facts();
+        let engine = Engine::of(unit, harts, store);
         // For the prover: the parts stand for a state of the flat machine.
         engine.stand();
         Ok(begin(engine, settings, &image.bytes, image.entry))
@@ -59,8 +68,9 @@ fn begin(engine: Engine, settings: Settings, bytes: &[u8], entry: u64) -> Machin
     requires harts { (0 < settings.harts) × (settings.harts ≤ 4) }
     requires whole { length bytes.now ≡ 4096 * settings.ram_pages }
     requires entry { entry % 4 ≡ 0 }
+    requires records { AreRecords engine.state.records }
     requires opens { engine.state ≡ flat.opening settings.ram_pages settings.harts
-        (record { bytes = bytes.now; entry = entry }) [] }
+        (record { bytes = bytes.now; entry = entry }) engine.state.records }
     ensures { result ≡ engine }
 {
     Machine { engine }

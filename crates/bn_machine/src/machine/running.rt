@@ -1,7 +1,5 @@
 //! Runs.
-ghost use Rattle.std.specs.Prelude.{◌≡◌, ◌+◌, ◌-◌, ◌^◌, ◌<◌, ◌↔◌, false, length, IfOk, IsOk};
-ghost use Rattle.std.specs.Prelude.{IsTrue};
-ghost use Rattle.std.specs.Prelude.{OnErr, OnOk};
+ghost use Rattle.std.specs.Prelude.{◌≡◌, ◌+◌, ◌-◌, ◌^◌, ◌<◌, false, length, IfOk, OnErr};
 ghost use Rattle.bn_edge.specs.Counts.{CountsRefusals};
 ghost use Rattle.bn_edge.specs.Written.{WritesFront};
 ghost use Rattle.bn_model.specs.BlankingLaws.{HidesSecrets, TellsNoneOf};
@@ -9,11 +7,11 @@ ghost use Rattle.bn_model.specs.Running.{blind_at, course, state_before};
 ghost use Rattle.bn_model.specs.Scripts.{IsOrderly, first_events};
 ghost use Rattle.bn_model.specs.Spelling.{text_of};
 ghost use Rattle.bn_model.specs.Stepping as flat;
-ghost use Rattle.bn_machine.specs.Built.{is_built_event};
+ghost use Rattle.bn_model.specs.WholeRuns.{always};
 ghost use Rattle.bn_machine.specs.Telling.{FinishesRun, IsLeftOf, StopsRun};
 
+use crate::LineBuf;
 use crate::machine::Machine;
-use crate::{LineBuf, Unbuilt};
 use bn_edge::{Sink, SinkFailed, write_all};
 use bn_script::Script;
 use bn_types::{Ending, Event, ModId, Steps};
@@ -44,12 +42,12 @@ impl Machine {
         requires clock { self.old.state.clock + limit < 2 ^ 64 }
         requires still { moves ≡ 0 }
         ensures finished { IfOk result (λ ending. FinishesRun
-            (course is_built_event (blind_at blind) self.old.state (first_events limit script.old))
+            (course always (blind_at blind) self.old.state (first_events limit script.old))
             ending self.new.state (O.account out.old) (O.account out.new)) }
         ensures stopped { OnErr result (StopsRun (blind_at blind) self.old.state self.new.state
             (first_events limit script.old) (O.account out.old) (O.account out.new)) }
         ensures front { OnErr result (WritesFront (O.account out.old) (O.account out.new)
-            (text_of (course is_built_event (blind_at blind) self.old.state
+            (text_of (course always (blind_at blind) self.old.state
             (first_events limit script.old)).told)) }
         ensures failed { CountsRefusals result
             (O.account out.old).faults (O.account out.new).faults }
@@ -67,10 +65,7 @@ impl Machine {
             // For the prover: the next one fits.
             script.facts();
             let event = script.next_event();
-            match self.make_event(event, blind, &mut lines, steps) {
-                Ok(()) => {}
-                Err(_) => return Ok(Ending::Unbuilt),
-            }
+            self.make_event(event, blind, &mut lines, steps);
             write_all(out, lines.bytes())?;
             if self.is_off() {
                 return Ok(Ending::Shutdown);
@@ -101,20 +96,16 @@ impl Machine {
         blind: Option<(ModId, u64)>,
         lines: &mut LineBuf,
         steps: &mut Steps<L>,
-    ) -> Result<(), Unbuilt>
+    )
         requires on { self.old.state.off ≡ false }
         requires fits { flat.Fits self.old.state event }
         requires clock { self.old.state.clock < 2 ^ 64 - 1 }
-        ensures built { IsOk result ↔ IsTrue
-            (is_built_event (state_before (blind_at blind) self.old.state) event) }
-        ensures stepped { OnOk result (self.new.state
-            ≡ flat.step (state_before (blind_at blind) self.old.state) event) }
-        ensures told { OnOk result (lines.new
-            ≡ text_of (flat.lines (state_before (blind_at blind) self.old.state) event)) }
-        ensures unchanged { OnErr result
-            (self.new.state ≡ state_before (blind_at blind) self.old.state) }
+        ensures stepped { self.new.state
+            ≡ flat.step (state_before (blind_at blind) self.old.state) event }
+        ensures told { lines.new
+            ≡ text_of (flat.lines (state_before (blind_at blind) self.old.state) event) }
     {
         self.blank_before_event(blind, steps);
-        self.turn(event, lines, steps)
+        self.turn(event, lines, steps);
     }
 }

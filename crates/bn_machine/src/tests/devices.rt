@@ -3,6 +3,7 @@ ghost use Rattle.std.specs.Prelude.{◌≡◌, ◌<◌};
 
 use crate::{LineBuf, Machine, Settings};
 use bn_loader::Loaded;
+use bn_store::Store;
 use bn_types::{Event, Gpn, Steps};
 use std::alloc::Global;
 use std::marker::Brand;
@@ -21,7 +22,8 @@ fn boot(rt: &impl Abort, alloc: Global) -> Machine {
         bytes,
         entry: 0x8000_0000,
     };
-    Machine::boot(alloc, settings, &image).expect(rt, "memory")
+    let store = Store::empty(alloc).expect(rt, "memory");
+    Machine::boot(alloc, settings, &image, store).expect(rt, "memory")
 }
 
 fn reach_bytes<L: Ledger>(rt: &impl Abort, alloc: Global, blank: Blank)
@@ -51,8 +53,7 @@ fn expect_key<L: Ledger>(rt: &impl Abort, machine: &mut Machine, steps: &mut Ste
     let mut lines = LineBuf::new();
     assert!(rt; !machine.is_off());
     assert_eq!(rt; machine.clock(), 0);
-    let made = machine.turn(Event::Key(0x41), &mut lines, steps);
-    assert!(rt; made.is_ok());
+    machine.turn(Event::Key(0x41), &mut lines, steps);
     assert_eq!(rt; lines.bytes(), b"key 0 41\n".as_slice());
     assert_eq!(rt; machine.clock(), 1);
 }

@@ -1,4 +1,4 @@
-use Rattle.std.proofs.Common.{zero, List, [], length, sym, ap, ◌∙◌}
+use Rattle.std.proofs.Common.{zero, List, length, sym, ap, ◌∙◌}
 use Rattle.std.specs.Option.{option_copied}
 use Rattle.bn_types.specs.declared.decl.Decl.{Decl}
 use Rattle.bn_model.specs.Blanking.{blank_row, rests}
@@ -41,7 +41,7 @@ returns-in-Some g c =
       nest = c.self.inside.unit.nest;
       harts = c.self.inside.harts.items;
       rows = c.self.inside.table.rows;
-      records = [];
+      records = c.self.inside.store;
       keys = c.self.inside.keys.items;
       next = c.self.inside.table.next;
       clock = c.self.inside.clock;

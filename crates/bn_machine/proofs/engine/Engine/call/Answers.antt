@@ -1,4 +1,4 @@
-use Rattle.std.proofs.Common.{List, refl, ap, ap₂, subst, ◌∙◌, w64}
+use Rattle.std.proofs.Common.{List, ap, ap₂, subst, ◌∙◌, w64}
 use Rattle.std.proofs.Math.Facts.{sfits_lit, yes_ltb}
 use Rattle.std.proofs.lemmas.Int.{to_z-of_z}
 use Rattle.bn_types.specs.declared.mode.Mode.{Mode}
@@ -26,7 +26,6 @@ returns-in-Ok c =
     record {
       made = subst (IsMade s c.go_on_in.new.self.state c.tell_call.new.lines c.args.h) is
           (record {
-            built = refl;
             stepped = state_called s _ _ _ c.args.h c.args.rd c.args.id c.args.entry
                 c.leave-here.result c.in-Ok.callee c.requires.hart stands goes left
                 c.in-Ok.ensures.called c.go_on_in.ensures;
@@ -57,7 +56,6 @@ returns-in-Err c =
     record {
       made = subst (IsMade s c.refuse.new.self.state c.refuse.new.lines h) is
           (record {
-            built = refl;
             stepped = c.refuse.ensures.stepped number code
                 ∙ ap (λ (x : State). state_after x h (Refuse c.args.rd request.Call number)) same;
             told = c.refuse.ensures.told number code

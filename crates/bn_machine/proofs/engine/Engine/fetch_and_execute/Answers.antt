@@ -5,7 +5,7 @@ use Rattle.bn_machine.proofs.engine.Engine.fetch_and_execute.Goals as goal
 
 pub returns-in-Ok-clause-made : goal.returns-in-Ok-clause-made
 returns-in-Ok-clause-made g c =
-    made-fetched _ _ _ _ _ _ c.in-Ok.word c.fetch.ensures.kept
+    made-fetched _ _ _ _ _ c.in-Ok.word c.fetch.ensures.kept
     (sym c.fetch.ensures.word ∙ c.in-Ok.is) c.execute.ensures.made
 
 pub returns-in-Err-clause-made : goal.returns-in-Err-clause-made

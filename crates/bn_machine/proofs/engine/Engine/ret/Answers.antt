@@ -1,4 +1,4 @@
-use Rattle.std.proofs.Common.{ℕ, List, refl, ap, ap₂, ◌∙◌}
+use Rattle.std.proofs.Common.{ℕ, List, ap, ap₂, ◌∙◌}
 use Rattle.bn_types.specs.declared.mod_id.ModId.{ModId}
 use Rattle.bn_types.specs.declared.row.Row.{Row}
 use Rattle.bn_model.specs.Deciding.{caller_of}
@@ -22,7 +22,6 @@ returns c =
     let goes = c.return_in_table-back.ensures.context in
     record {
       made = record {
-        built = refl;
         stepped = state_returned s _ _ _ c.args.h (pc-of s.rows m) c.leave-here.result
             c.return_in_table-back.result c.requires.hart stands goes c.leave-here.ensures.left
             c.return_in_table-back.ensures.returned c.go_on_in.ensures;

@@ -3,10 +3,9 @@ use Rattle.bn_edge.specs.Written.{appended, WritesFront}
 use Rattle.bn_model.specs.Running.{blind_at}
 use Rattle.bn_model.specs.Scripts.{after_events, first_events}
 use Rattle.bn_model.specs.State.{State}
-use Rattle.bn_machine.specs.Built.{is_built_event}
 use Rattle.bn_machine.specs.Telling.{StopsRun}
-use Rattle.bn_machine.proofs.Runs.{before, drawn_fits, drawn_is, drawn_more, false_unless}
-use Rattle.bn_machine.proofs.Runs.{finished_limit, finished_off, finished_unbuilt, front_written}
+use Rattle.bn_machine.proofs.Runs.{drawn_fits, drawn_is, drawn_more}
+use Rattle.bn_machine.proofs.Runs.{finished_limit, finished_off, front_written}
 use Rattle.bn_machine.proofs.Runs.{left_after, left_at_end, on_err, stopped, underway_at_start}
 use Rattle.bn_machine.proofs.Runs.{underway_more}
 use Rattle.bn_edge.proofs.Wrote.{stays_on}
@@ -27,45 +26,29 @@ make_event-requires-clause-fits g c =
     c.next_event-event.result c.loop-event.invariant.drawn c.facts-in-loop-event.ensures
     c.next_event-event.ensures.event c.loop-event.invariant.underway.harts
 
-pub returns-in-Err-clause-finished : goal.returns-in-Err-clause-finished
-returns-in-Err-clause-finished g c =
-    let blind = blind_at c.args.blind in
-    let now = c.loop-event.self.state in
-    let is = drawn_is _ _ _ _ c.loop-event.invariant.drawn c.next_event-event.ensures.event in
-    rw c.in-Err.ensures.unchanged
-    (finished_unbuilt blind _ now _ _ _ _ _ c.loop-event.invariant.underway c.loop-event-test.true
-    c.next_event-event.result is
-    (false_unless (is_built_event (before blind now) c.next_event-event.result)
-    c.in-Err.ensures.built.1))
-
-pub returns-in-Err-clause-drawn : goal.returns-in-Err-clause-drawn
-returns-in-Err-clause-drawn g c =
-    left_after _ _ _ _ _ c.loop-event.invariant.drawn c.next_event-event.ensures.rest
-    c.loop-event-test.true
-
 pub returns-in_err-write_all-clause-stopped : goal.returns-in_err-write_all-clause-stopped
 returns-in_err-write_all-clause-stopped g c =
-    let text = c.bytes.ensures ∙ c.in-Ok.ensures.told in
+    let text = c.bytes.ensures ∙ c.make_event.ensures.told in
     let is = drawn_is _ _ _ _ c.loop-event.invariant.drawn c.next_event-event.ensures.event in
     let front = subst (WritesFront (g.O.Sink.account c.loop-event.out)
     (g.O.Sink.account c.write_all.new.out)) text c.in_err-write_all.ensures.err in
     let stops : StopsRun (blind_at c.args.blind) c.args.self.now.state
     c.make_event.new.self.state (first_events c.args.limit c.args.script.now)
     (g.O.Sink.account c.args.out.now) (g.O.Sink.account c.write_all.new.out) =
-    rw c.in-Ok.ensures.stepped
+    rw c.make_event.ensures.stepped
     (stopped _ _ c.loop-event.self.state _ _ _ _ _ c.loop-event.invariant.underway
     c.loop-event-test.true c.next_event-event.result is _ front) in
     on_err c.from_residual.result stops
 
 pub returns-in_err-write_all-clause-front : goal.returns-in_err-write_all-clause-front
 returns-in_err-write_all-clause-front g c =
-    let text = c.bytes.ensures ∙ c.in-Ok.ensures.told in
+    let text = c.bytes.ensures ∙ c.make_event.ensures.told in
     let is = drawn_is _ _ _ _ c.loop-event.invariant.drawn c.next_event-event.ensures.event in
     let front = subst (WritesFront (g.O.Sink.account c.loop-event.out)
     (g.O.Sink.account c.write_all.new.out)) text c.in_err-write_all.ensures.err in
     on_err c.from_residual.result
     (front_written _ _ c.loop-event.self.state _ _ _ _ _ c.loop-event.invariant.underway
-    c.loop-event-test.true c.next_event-event.result is _ (c.in-Ok.ensures.built.0 refl) front)
+    c.loop-event-test.true c.next_event-event.result is _ front)
 
 pub returns-in_err-write_all-clause-drawn : goal.returns-in_err-write_all-clause-drawn
 returns-in_err-write_all-clause-drawn g c =
@@ -74,15 +57,15 @@ returns-in_err-write_all-clause-drawn g c =
 
 pub returns-then-is_off-clause-finished : goal.returns-then-is_off-clause-finished
 returns-then-is_off-clause-finished g c =
-    let text = c.bytes.ensures ∙ c.in-Ok.ensures.told in
+    let text = c.bytes.ensures ∙ c.make_event.ensures.told in
     let is = drawn_is _ _ _ _ c.loop-event.invariant.drawn c.next_event-event.ensures.event in
     let told = c.in_ok-write_all.ensures.ok
     ∙ ap (appended (g.O.Sink.account c.loop-event.out).written) text in
-    let off = ap (λ (s : State). s.off) (sym c.in-Ok.ensures.stepped) ∙ sym c.is_off.ensures
+    let off = ap (λ (s : State). s.off) (sym c.make_event.ensures.stepped) ∙ sym c.is_off.ensures
     ∙ c.if-is_off.true in
-    rw c.in-Ok.ensures.stepped
+    rw c.make_event.ensures.stepped
     (finished_off _ _ c.loop-event.self.state _ _ _ _ _ c.loop-event.invariant.underway
-    c.loop-event-test.true c.next_event-event.result is _ (c.in-Ok.ensures.built.0 refl) off told)
+    c.loop-event-test.true c.next_event-event.result is _ off told)
 
 pub returns-then-is_off-clause-drawn : goal.returns-then-is_off-clause-drawn
 returns-then-is_off-clause-drawn g c =
@@ -91,16 +74,16 @@ returns-then-is_off-clause-drawn g c =
 
 pub loop-event-preserved : goal.loop-event-preserved
 loop-event-preserved g c =
-    let text = c.bytes.ensures ∙ c.in-Ok.ensures.told in
+    let text = c.bytes.ensures ∙ c.make_event.ensures.told in
     let is = drawn_is _ _ _ _ c.loop-event.invariant.drawn c.next_event-event.ensures.event in
     let told = c.in_ok-write_all.ensures.ok
     ∙ ap (appended (g.O.Sink.account c.loop-event.out).written) text in
-    let on = ap (λ (s : State). s.off) (sym c.in-Ok.ensures.stepped) ∙ sym c.is_off.ensures
+    let on = ap (λ (s : State). s.off) (sym c.make_event.ensures.stepped) ∙ sym c.is_off.ensures
     ∙ c.if-is_off.false in
     record {
-      underway = rw c.in-Ok.ensures.stepped
+      underway = rw c.make_event.ensures.stepped
           (underway_more _ _ c.loop-event.self.state _ _ _ _ _ c.loop-event.invariant.underway
-          c.loop-event-test.true c.next_event-event.result is _ (c.in-Ok.ensures.built.0 refl) on
+          c.loop-event-test.true c.next_event-event.result is _ on
           told);
       drawn = drawn_more _ _ _ _ c.loop-event.invariant.drawn c.next_event-event.ensures.rest;
       quiet = stays_on _ _ _ c.loop-event.invariant.quiet c.in_ok-write_all.ensures.failed;

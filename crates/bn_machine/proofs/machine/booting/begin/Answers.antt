@@ -1,19 +1,14 @@
-use Rattle.std.proofs.Common.{◌<◌, length, [], sym, subst, arith}
+use Rattle.std.proofs.Common.{◌<◌, length, sym, subst, arith}
 use Rattle.std.proofs.lemmas.Grind.{get_or_default_zero}
-use Rattle.std.proofs.lemmas.List.Elements.{All-nil}
-use Rattle.bn_model.specs.Records.{AreRecords}
 use Rattle.bn_model.specs.Soundness.{IsSound}
 use Rattle.bn_model.proofs.SoundOpening.{opening-sound}
 use Rattle.bn_machine.proofs.machine.booting.begin.Goals as goal
-
-no-records : AreRecords []
-no-records = record { few = omega arith; ascending = tt; whole = All-nil _ }
 
 pub invariant_of-result : goal.invariant_of-result
 invariant_of-result c =
     subst IsSound (sym c.requires.opens)
     (opening-sound c.args.settings.ram_pages c.args.settings.harts
-    (record { bytes = c.args.bytes.now; entry = c.args.entry }) []
+    (record { bytes = c.args.bytes.now; entry = c.args.entry }) _
     (record {
       some_harts = omega (arith, c.requires.harts);
       few_harts = omega (arith, c.requires.harts);
@@ -23,5 +18,5 @@ invariant_of-result c =
       bytes = λ k d (below : k < length c.args.bytes.now).
           rw (get_or_default_zero c.args.bytes.now k d below) (omega (arith, c.type_inv.bytes k));
       entry = record { aligned = c.requires.entry; small = c.ranges.entry.fits };
-      good_order = no-records;
+      good_order = c.requires.records;
     }))
