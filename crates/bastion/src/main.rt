@@ -8,8 +8,9 @@ ghost use Rattle.bn_types.specs.ExitCodes.{exit_code};
 ghost use Rattle.bn_front.specs.Headline.{outside};
 ghost use Rattle.bastion.specs.Program.{AnswersWords};
 
-use bn_edge::{Chip, Desk, FileChip, FileDesk, FileVault, HostWords, OutSink, Sink, Vault, Words};
-use bn_edge::gather_words;
+use bn_edge::{
+    Chip, Desk, FileChip, FileDesk, FileVault, HostWords, OutSink, Sink, Vault, Words, gather_words,
+};
 use bn_types::Status;
 use std::alloc::Global;
 use std::process::ExitCode;
@@ -45,9 +46,9 @@ fn run<W: Words, D: Desk, V: Vault, C: Chip, O: Sink>(
 ) -> Status
     ensures { AnswersWords (W.words words.now) result
         (outside (D.account desk.old) (V.account vault.old)
-            (C.account chip.old) (O.account out.old))
+        (C.account chip.old) (O.account out.old))
         (outside (D.account desk.new) (V.account vault.new)
-            (C.account chip.new) (O.account out.new)) }
+        (C.account chip.new) (O.account out.new)) }
 {
     match gather_words(alloc, words) {
         Ok(words) => bn_front::bastion(alloc, &words, desk, vault, chip, out),

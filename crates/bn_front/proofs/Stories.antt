@@ -294,9 +294,9 @@ module _ (task : Task) (desk : DeskAccount) (store : StoreAccount) (due : Due) w
         sym (ap has_store f.run.runs) ∙ stored in (
           f.run,
           subst (λ (b : Bool).
-          IsLeft (act_at_end b (course_begun f.run).last.records) before after)
-          is_stored
-          (subst (λ (d : Due). IsLeft d.act before after) f.is left),
+              IsLeft (act_at_end b (course_begun f.run).last.records) before after)
+              is_stored
+              (subst (λ (d : Due). IsLeft d.act before after) f.is left),
         )
     committed_due (OfDesk f) stored ends =
         absurd (subst (λ (d : Due). EndsRun d.last.status) f.is ends)
@@ -343,23 +343,29 @@ module _ (task : Task) (desk : DeskAccount) (store : StoreAccount) (due : Due)
         ∙ sym (ap told_as (refusal_reported order files storage why.why (why.refused storage)))
 
   of_files : IsOfFiles task desk due → (files : Files) × IsReport files
-  of_files f = (f.files, record {
-    told = f.agrees;
-    is = λ storage seen.
-        ap (λ (d : Due). reported d storage) f.is
-        ∙ files_reported f.files f.last f.refuses storage;
-    left = left_by f.last f.is;
-  })
+  of_files f = (
+    f.files,
+    record {
+      told = f.agrees;
+      is = λ storage seen.
+          ap (λ (d : Due). reported d storage) f.is
+          ∙ files_reported f.files f.last f.refuses storage;
+      left = left_by f.last f.is;
+    },
+  )
 
   of_store : IsOfStore task desk store due → (files : Files) × IsReport files
-  of_store f = (f.opens.accepted.files, record {
-    told = f.opens.accepted.agrees;
-    is = λ storage seen.
-        ap (λ (d : Due). reported d storage) f.is
-        ∙ sym (ap (λ (t : Task). report_of_task t f.opens.accepted.files storage) f.opens.runs
-        ∙ ap told_as (refused storage seen));
-    left = left_by _ f.is;
-  }) where
+  of_store f = (
+    f.opens.accepted.files,
+    record {
+      told = f.opens.accepted.agrees;
+      is = λ storage seen.
+          ap (λ (d : Due). reported d storage) f.is
+          ∙ sym (ap (λ (t : Task). report_of_task t f.opens.accepted.files storage) f.opens.runs
+          ∙ ap told_as (refused storage seen));
+      left = left_by _ f.is;
+    },
+  ) where
     tells : (storage : Storage) → IsSeen (has_store task) store storage → Tells store storage
     tells storage seen =
         subst (λ (b : Bool). IsSeen b store storage)
@@ -379,25 +385,28 @@ module _ (task : Task) (desk : DeskAccount) (store : StoreAccount) (due : Due)
         ∙ ap records_found (f.refuses storage (tells storage seen))))
 
   of_run : IsOfRun task desk store due → (files : Files) × IsReport files
-  of_run f = (f.run.accepted.files, record {
-    told = f.run.accepted.agrees;
-    is = λ storage seen.
-        ap (λ (d : Due). reported d storage) f.is
-        ∙ by_store f.run.order.is_stored storage
-        ∙ sym (ap (λ (t : Task). report_of_task t f.run.accepted.files storage) f.run.runs
-        ∙ ap told_as
-        (run_reported f.run.order f.run.accepted.files storage
-        (start_from f.run.order f.run.accepted.parts f.run.records)
-        (begun f.run.order f.run.accepted.files storage f.run.accepted.parts f.run.records
-        (both_read f.run.order f.run.accepted.files f.run.accepted.parts.image
-        f.run.accepted.parts.script f.run.accepted.loaded f.run.accepted.read)
-        (f.run.finds storage
-        (subst (λ (b : Bool). IsSeen b store storage) (ap has_store f.run.runs) seen)))));
-    left = λ storage keeps.
-        subst (λ (d : Due). Keeps after (storage_by d.act storage)) (sym f.is)
-        (left_run f.run.order.is_stored storage
-        (subst (λ (d : Due). IsLeft d.act store after) f.is ended_so) keeps);
-  }) where
+  of_run f = (
+    f.run.accepted.files,
+    record {
+      told = f.run.accepted.agrees;
+      is = λ storage seen.
+          ap (λ (d : Due). reported d storage) f.is
+          ∙ by_store f.run.order.is_stored storage
+          ∙ sym (ap (λ (t : Task). report_of_task t f.run.accepted.files storage) f.run.runs
+          ∙ ap told_as
+          (run_reported f.run.order f.run.accepted.files storage
+          (start_from f.run.order f.run.accepted.parts f.run.records)
+          (begun f.run.order f.run.accepted.files storage f.run.accepted.parts f.run.records
+          (both_read f.run.order f.run.accepted.files f.run.accepted.parts.image
+          f.run.accepted.parts.script f.run.accepted.loaded f.run.accepted.read)
+          (f.run.finds storage
+          (subst (λ (b : Bool). IsSeen b store storage) (ap has_store f.run.runs) seen)))));
+      left = λ storage keeps.
+          subst (λ (d : Due). Keeps after (storage_by d.act storage)) (sym f.is)
+          (left_run f.run.order.is_stored storage
+          (subst (λ (d : Due). IsLeft d.act store after) f.is ended_so) keeps);
+    },
+  ) where
     run : Course
     run = course_begun f.run
 

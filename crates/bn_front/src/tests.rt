@@ -135,9 +135,7 @@ fn call_words(
     let mut vault = MemVault::of(alloc, b"", b"", Vec::new(alloc)).expect(rt, "memory");
     let mut chip = MemChip::of([0; 32], Vec::new(alloc));
     let mut out = MemSink::of(alloc, 16_384, Vec::new(alloc)).expect(rt, "memory");
-    let status = bastion(
-        alloc, words, &mut desk, &mut vault, &mut chip, &mut out,
-    );
+    let status = bastion(alloc, words, &mut desk, &mut vault, &mut chip, &mut out);
     let expected = text(alloc, pieces).expect(rt, "memory");
     assert_eq!(rt; out.bytes(), expected.as_bytes(), "of {words:?}");
     status

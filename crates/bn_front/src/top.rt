@@ -34,9 +34,9 @@ pub fn bastion<D: Desk, V: Vault, C: Chip, O: Sink>(
 ) -> Status
     ensures promise { Promise (bytes_of_words words.now) result
         (outside (D.account desk.old) (V.account vault.old)
-            (C.account chip.old) (O.account out.old))
+        (C.account chip.old) (O.account out.old))
         (outside (D.account desk.new) (V.account vault.new)
-            (C.account chip.new) (O.account out.new)) }
+        (C.account chip.new) (O.account out.new)) }
     // Without a store neither vault nor chip is called.
     ensures uncalled { uses_store (bytes_of_words words.now) ≡ false →
         (vault.new ≡ vault.old) × (chip.new ≡ chip.old) }
@@ -54,9 +54,9 @@ fn serve<D: Desk, V: Vault, C: Chip, O: Sink>(
 ) -> Status
     ensures story { IsStory result (task_of (bytes_of_words words.now))
         (outside (D.account desk.old) (V.account vault.old)
-            (C.account chip.old) (O.account out.old))
+        (C.account chip.old) (O.account out.old))
         (outside (D.account desk.new) (V.account vault.new)
-            (C.account chip.new) (O.account out.new)) }
+        (C.account chip.new) (O.account out.new)) }
     ensures counted { CountsSinkFault result (O.account out.old).faults (O.account out.new).faults }
     ensures uncalled { has_store (task_of (bytes_of_words words.now)) ≡ false →
         (vault.new ≡ vault.old) × (chip.new ≡ chip.old) }
@@ -88,9 +88,9 @@ fn serve_order<D: Desk, V: Vault, C: Chip, O: Sink>(
     requires { AreInRange (order_meant order.now) }
     ensures story { IsStory result (task_by (Some (order_meant order.now)))
         (outside (D.account desk.old) (V.account vault.old)
-            (C.account chip.old) (O.account out.old))
+        (C.account chip.old) (O.account out.old))
         (outside (D.account desk.new) (V.account vault.new)
-            (C.account chip.new) (O.account out.new)) }
+        (C.account chip.new) (O.account out.new)) }
     ensures counted { CountsSinkFault result (O.account out.old).faults (O.account out.new).faults }
     ensures uncalled { has_store (task_by (Some (order_meant order.now))) ≡ false →
         (vault.new ≡ vault.old) × (chip.new ≡ chip.old) }
@@ -112,9 +112,9 @@ fn serve_run<D: Desk, V: Vault, C: Chip, O: Sink>(
     requires { IsInRange (own_meant order.now) }
     ensures story { IsStory result (Running (own_meant order.now))
         (outside (D.account desk.old) (V.account vault.old)
-            (C.account chip.old) (O.account out.old))
+        (C.account chip.old) (O.account out.old))
         (outside (D.account desk.new) (V.account vault.new)
-            (C.account chip.new) (O.account out.new)) }
+        (C.account chip.new) (O.account out.new)) }
     ensures counted { CountsSinkFault result (O.account out.old).faults (O.account out.new).faults }
     ensures uncalled { order.now.store ≡ false →
         (vault.new ≡ vault.old) × (chip.new ≡ chip.old) }

@@ -268,9 +268,7 @@ fn expect_desk_fault(rt: &impl Abort, alloc: Global, fails: &[u64], text: &str) 
     let mut out = MemSink::of(alloc, 4096, Vec::new(alloc)).expect(rt, "memory");
     let mut vault = MemVault::of(alloc, b"", b"", Vec::new(alloc)).expect(rt, "memory");
     let mut chip = MemChip::of([0; 32], Vec::new(alloc));
-    let status = bastion(
-        alloc, &words, &mut desk, &mut vault, &mut chip, &mut out,
-    );
+    let status = bastion(alloc, &words, &mut desk, &mut vault, &mut chip, &mut out);
     assert_eq!(rt; status, Status::DeskFault);
     assert_eq!(rt; out.bytes(), text.as_bytes());
 }

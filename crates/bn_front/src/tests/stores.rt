@@ -94,9 +94,15 @@ fn expect_stored(
     second: &[u8],
     register: [u8; 32],
 ) {
-    let area = devices.vault.read_area(alloc, Area::First).expect(rt, "read");
+    let area = devices
+        .vault
+        .read_area(alloc, Area::First)
+        .expect(rt, "read");
     assert_eq!(rt; area.as_slice(), first);
-    let area = devices.vault.read_area(alloc, Area::Second).expect(rt, "read");
+    let area = devices
+        .vault
+        .read_area(alloc, Area::Second)
+        .expect(rt, "read");
     assert_eq!(rt; area.as_slice(), second);
     assert_eq!(rt; devices.chip.register().expect(rt, "read"), register);
 }
@@ -132,7 +138,14 @@ fn areas_that_do_not_match_are_refused_and_stay(rt: HostRuntime) {
 #[test]
 fn a_short_image_is_malformed_at_its_end(rt: HostRuntime) {
     let alloc = rt.alloc();
-    let mut devices = devices_with(&rt, alloc, b"BNSTORE1\0\0\0\0\0\0\0", SHORT_DIGEST, &[], &[]);
+    let mut devices = devices_with(
+        &rt,
+        alloc,
+        b"BNSTORE1\0\0\0\0\0\0\0",
+        SHORT_DIGEST,
+        &[],
+        &[],
+    );
     let text = "store malformed 15\n";
     expect_call(&rt, alloc, STORED, &mut devices, &[], Status::Store, text);
 }
@@ -167,10 +180,26 @@ fn a_run_without_a_store_calls_no_device(rt: HostRuntime) {
 fn a_run_whose_lines_fail_is_not_committed_and_one_whose_end_line_fails_is(rt: HostRuntime) {
     let alloc = rt.alloc();
     let mut devices = devices_with(&rt, alloc, b"", ZEROS, &[], &[]);
-    expect_call(&rt, alloc, STORED, &mut devices, &[1], Status::SinkFault, "");
+    expect_call(
+        &rt,
+        alloc,
+        STORED,
+        &mut devices,
+        &[1],
+        Status::SinkFault,
+        "",
+    );
     expect_stored(&rt, alloc, &mut devices, b"", b"", ZEROS);
     let text = "out 2 0 41\n";
-    expect_call(&rt, alloc, STORED, &mut devices, &[2], Status::SinkFault, text);
+    expect_call(
+        &rt,
+        alloc,
+        STORED,
+        &mut devices,
+        &[2],
+        Status::SinkFault,
+        text,
+    );
     expect_stored(&rt, alloc, &mut devices, EMPTY_IMAGE, b"", EMPTY_DIGEST);
 }
 
@@ -179,7 +208,15 @@ fn a_commit_that_stops_before_the_sync_leaves_the_old_store(rt: HostRuntime) {
     let alloc = rt.alloc();
     let mut devices = devices_with(&rt, alloc, b"", ZEROS, &[4], &[]);
     let text = "out 2 0 41\nvault commit\n";
-    expect_call(&rt, alloc, STORED, &mut devices, &[], Status::VaultFault, text);
+    expect_call(
+        &rt,
+        alloc,
+        STORED,
+        &mut devices,
+        &[],
+        Status::VaultFault,
+        text,
+    );
     expect_stored(&rt, alloc, &mut devices, EMPTY_IMAGE, b"", ZEROS);
     expect_call(&rt, alloc, STORED, &mut devices, &[], Status::Ended, LINES);
     expect_stored(&rt, alloc, &mut devices, EMPTY_IMAGE, b"", EMPTY_DIGEST);

@@ -183,9 +183,7 @@ fn check_faults(
     let mut out = MemSink::of(alloc, room, fails).expect(rt, "memory");
     let mut vault = MemVault::of(alloc, b"", b"", Vec::new(alloc)).expect(rt, "memory");
     let mut chip = MemChip::of([0; 32], Vec::new(alloc));
-    let answer = bastion(
-        alloc, &words, &mut desk, &mut vault, &mut chip, &mut out,
-    );
+    let answer = bastion(alloc, &words, &mut desk, &mut vault, &mut chip, &mut out);
     assert_eq!(rt; answer, status);
     assert_eq!(rt; out.bytes(), text.as_bytes());
 }

@@ -23,5 +23,5 @@ returns-clause-answers g c =
     (more _ _ _ _ c.append.ensures c.new-line.ensures)))))) in (
       c.say.ensures.spoken,
       subst (λ (t : List ℕ). Answers c.say.result (bad_store t) (g.O.Sink.account c.args.out.now)
-      (g.O.Sink.account c.say.new.out)) whole c.say.ensures.answers,
+          (g.O.Sink.account c.say.new.out)) whole c.say.ensures.answers,
     )
