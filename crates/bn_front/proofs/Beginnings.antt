@@ -85,7 +85,8 @@ with_parts order storage read =
     whole.◌>>=◌ read
     (λ parts. with_records order parts (records_for order.is_stored storage))
 
-abbrev start_by_script : RunOrder → Storage → Image → Result Script Refused → Result Start Refused
+abbrev start_by_script : RunOrder → Storage → Image → Result Script Refused
+    → Result Start Refused
 start_by_script order storage image read =
     whole.◌>>=◌ read
     (λ script. with_records order (record { image = image; script = script })
@@ -97,7 +98,8 @@ module _ (order : RunOrder) (files : Files) (storage : Storage) where
   unfolding whole.start_of parts_of
   begins = by_image (image_in (4096 * order.ram_pages) (files order.image)) where
     by_script : (image : Image) (read : Result Script Refused)
-        → start_by_script order storage image read ≡ with_parts order storage (with_script image read)
+        → start_by_script order storage image read
+        ≡ with_parts order storage (with_script image read)
     by_script image (Err why) = refl
     by_script image (Ok script) = refl
 

@@ -1,5 +1,6 @@
 -- What a commit leaves of a store, and what ends a run with one.
-use Rattle.std.proofs.Common.{◌≡◌, ◌≢◌, ℕ, inl, inr, List, Option, Some, None, Result, Ok, Err, refl}
+use Rattle.std.proofs.Common.{◌≡◌, ◌≢◌, ℕ, inl, inr, List, Option, Some, None, Result, Ok, Err}
+use Rattle.std.proofs.Common.{refl}
 use Rattle.std.proofs.Common.{sym, ap, subst, ◌∙◌, ◌<◌, ◌-◌, ◌^◌, arith}
 use Rattle.sha2.specs.Sha256.{sha256}
 use Rattle.bn_edge.specs.Accounts.{SinkAccount}

@@ -1,5 +1,6 @@
 -- How courses end of which every event is built.
-use Rattle.std.proofs.Common.{◌≡◌, ◌≢◌, Bool, true, false, List, [], ◌∷◌, Option, refl, sym, ap, subst}
+use Rattle.std.proofs.Common.{◌≡◌, ◌≢◌, Bool, true, false, List, [], ◌∷◌, Option, refl, sym, ap}
+use Rattle.std.proofs.Common.{subst}
 use Rattle.std.proofs.Common.{◌∙◌}
 use Rattle.bn_types.specs.declared.ending.Ending.{Ending}
 use Rattle.bn_types.specs.declared.ending.Ending.TheVariants as ending
@@ -25,7 +26,9 @@ abbrev EndsAsItStands : Course → Type 0
 EndsAsItStands run = run.ending ≡ ending_at (finish_of run)
 
 at-off : (b : Bool) (s : State) → s.off ≡ b
-    → ending_at (finish_if b) ≡ ending_at (finish_of (record { told = []; ending = ending_at (finish_if b); last = s }))
+    → ending_at (finish_if b)
+    ≡ ending_at
+    (finish_of (record { told = []; ending = ending_at (finish_if b); last = s }))
 at-off b s e = sym (ap (λ (off : Bool). ending_at (finish_if off)) e)
 
 always-ends : (blind : Option Blind) (s : State) (events : List Event)

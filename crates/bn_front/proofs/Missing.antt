@@ -12,7 +12,8 @@ use Rattle.bn_model.specs.Opening.{Image}
 use Rattle.bn_model.specs.Reporting.{Files}
 use Rattle.bn_model.specs.Scripts.{Script, script_in}
 use Rattle.bn_model.specs.Storing.{Storage, records_in}
-use Rattle.bn_model.specs.WholeRuns.{BadImage, BadScript, BadStore, NoFile, Refused, Start, image_in}
+use Rattle.bn_model.specs.WholeRuns.{BadImage, BadScript, BadStore, NoFile, Refused, Start}
+use Rattle.bn_model.specs.WholeRuns.{image_in}
 use Rattle.bn_model.specs.WholeRuns.{image_loaded, records_for, records_found, script_file}
 use Rattle.bn_model.specs.WholeRuns.{script_for, script_line, script_read, start_of}
 use Rattle.bn_model.specs.Reporting.{fault_line}
@@ -40,21 +41,24 @@ module _ (order : RunOrder) (files : Files) (why : Refused) (missing : why.refus
       → ◌≡◌ {A = Result A Refused} (Err (record { refusal = BadImage; line = line })) (Err why)
       → IsMissing order files why.line
   not_image line e =
-      let clash : BadImage ≡ NoFile = ap (λ (w : Refused). w.refusal) (same_why _ why e) ∙ missing in
+      let clash : BadImage ≡ NoFile =
+      ap (λ (w : Refused). w.refusal) (same_why _ why e) ∙ missing in
       absurd cc
 
   not_script : {A : Type 0} (line : List ℕ)
       → ◌≡◌ {A = Result A Refused} (Err (record { refusal = BadScript; line = line })) (Err why)
       → IsMissing order files why.line
   not_script line e =
-      let clash : BadScript ≡ NoFile = ap (λ (w : Refused). w.refusal) (same_why _ why e) ∙ missing in
+      let clash : BadScript ≡ NoFile =
+      ap (λ (w : Refused). w.refusal) (same_why _ why e) ∙ missing in
       absurd cc
 
   not_store : {A : Type 0} (line : List ℕ)
       → ◌≡◌ {A = Result A Refused} (Err (record { refusal = BadStore; line = line })) (Err why)
       → IsMissing order files why.line
   not_store line e =
-      let clash : BadStore ≡ NoFile = ap (λ (w : Refused). w.refusal) (same_why _ why e) ∙ missing in
+      let clash : BadStore ≡ NoFile =
+      ap (λ (w : Refused). w.refusal) (same_why _ why e) ∙ missing in
       absurd cc
 
   missing_script : (file : List ℕ) (image : Image) → files order.image ≡ Some file

@@ -71,7 +71,8 @@ module _ (s m : StoreAccount) (stays : StorageStays s m) where
     by_time c (inl past) = here c (law c past)
     by_time c (inr now) = here c ((stays.crash c).0 now)
 
-    before_by : (c : Areas) (Past : Type 0) → Past ⊎ m.vault.may_leave c → Past ⊎ OpensAlike storage c
+    before_by : (c : Areas) (Past : Type 0) → Past ⊎ m.vault.may_leave c
+        → Past ⊎ OpensAlike storage c
     before_by c Past (inl past) = inl past
     before_by c Past (inr now) = inr (here c ((stays.crash c).0 now))
 

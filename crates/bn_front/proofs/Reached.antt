@@ -1,7 +1,8 @@
 -- The states that the run of a call reaches.
 use Rattle.std.proofs.Common.{◌≡◌, ℕ, ◌-◌, ◌*◌, ◌≤◌, ◌⊎◌, List, [], ◌∷◌, ◌++◌, length}
 use Rattle.std.proofs.Common.{replicate}
-use Rattle.std.proofs.Common.{Bool, true, false, Option, Some, None, Result, Ok, Err, IfOk, inl, inr}
+use Rattle.std.proofs.Common.{Bool, true, false, Option, Some, None, Result, Ok, Err, IfOk, inl}
+use Rattle.std.proofs.Common.{inr}
 use Rattle.std.proofs.Common.{refl, sym, ap, ap₂, subst, ◌∙◌, arith}
 use Rattle.std.proofs.lemmas.List.{length-replicate}
 use Rattle.std.proofs.lemmas.List.Elements.{All-nil}
@@ -317,7 +318,8 @@ course-is : (start : Start)
 unfolding whole.course_of
 course-is start = refl
 
-closed-by : (start : Start) → said.report_of_course (course always start.blind start.state start.events)
+closed-by : (start : Start)
+    → said.report_of_course (course always start.blind start.state start.events)
     ≡ record {
       status = (ended (whole.course_of start)).status;
       text = text_of (whole.course_of start).told ++ (ended (whole.course_of start)).text;
@@ -357,7 +359,8 @@ written-alike words others files storage start blind bytes areas both =
       whole = λ before after.
           let same : said.report_of_course (course always start.blind start.state start.events)
           ≡ said.report_of_course (course always (Some blind) start.state start.events) =
-          ap (λ (b : Option Blind). said.report_of_course (course always b start.state start.events))
+          ap (λ (b : Option Blind).
+          said.report_of_course (course always b start.state start.events))
           both.plain ∙ sym ((alike before).1 after) in
           let is = sym (closed-by start) ∙ same ∙ closed-by other in (
             one_is.0 ∙ ap (λ (r : said.Report). r.status) is ∙ sym other_is.0,

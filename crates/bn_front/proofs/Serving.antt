@@ -1,5 +1,6 @@
 -- The story of a call, from what its parts answer.
-use Rattle.std.proofs.Common.{◌≡◌, ◌≢◌, ℕ, inl, inr, Bool, true, false, List, [], ◌++◌, Option, Some}
+use Rattle.std.proofs.Common.{◌≡◌, ◌≢◌, ℕ, inl, inr, Bool, true, false, List, [], ◌++◌, Option}
+use Rattle.std.proofs.Common.{Some}
 use Rattle.std.proofs.Common.{None, Ok, Err, option_map, refl, sym, ap, ap₂, subst, ◌∙◌}
 use Rattle.bn_types.specs.declared.finish.Finish.{Finish}
 use Rattle.bn_types.specs.declared.finish.Finish.TheVariants as finish
@@ -27,7 +28,8 @@ use Rattle.bn_front.specs.declared.run_order.RunOrder as run_order
 use Rattle.bn_front.specs.declared.words_error.WordsError.{WordsError}
 use Rattle.bn_front.specs.declared.words_error.WordsError.TheVariants as error
 use Rattle.bn_front.specs.Built.{NoTask, Running, Task, Unbuilt, status_meant, task_by, task_of}
-use Rattle.bn_front.specs.Due.{AreAccepted, Begins, Device, Due, IsDue, OfCommit, OfDesk, OfFiles, OfOpening}
+use Rattle.bn_front.specs.Due.{AreAccepted, Begins, Device, Due, IsDue, OfCommit, OfDesk, OfFiles}
+use Rattle.bn_front.specs.Due.{OfOpening}
 use Rattle.bn_front.specs.Due.{OfRun, OfStore, OpensStore, Refuses, TheChip, TheVault, bad_store}
 use Rattle.bn_front.specs.Due.{desk_failed, due_text, ended, finished, missing_line, no_command}
 use Rattle.bn_front.specs.Due.{no_part, only, unfinished, unread, unwritten}
@@ -39,7 +41,8 @@ use Rattle.bn_front.specs.Stored.{IsLeft, IsSeen, Leaves, StorageStays, StoreAcc
 use Rattle.bn_front.specs.Story.{Answers, AnswersDue, AnswersRefusal, AnswersReport, AnswersWords}
 use Rattle.bn_front.specs.Story.{Counts, CountsChipFault, CountsDeskFault, CountsDevice, CountsMiss}
 use Rattle.bn_front.specs.Story.{CountsVaultFault, IsOnlyRead, IsOpened, IsStory, LacksMemory}
-use Rattle.bn_front.specs.Story.{OpensAndRuns, RunsPlainly, RunsStored, WantsMemory, act_of, last_of}
+use Rattle.bn_front.specs.Story.{OpensAndRuns, RunsPlainly, RunsStored, WantsMemory, act_of}
+use Rattle.bn_front.specs.Story.{last_of}
 use Rattle.bn_front.proofs.Beginnings.{parts_read, run_refused}
 use Rattle.bn_front.proofs.Moments.{unchanged}
 use Rattle.bn_front.proofs.Readings.{seen_told}
@@ -213,7 +216,12 @@ module _ (desk later : DeskAccount) (store : StoreAccount) (sink end : SinkAccou
           };
           is = refl;
         }))
-        (record { missed = reads.missed; desk = reads.quiet; vault = λ can. refl; chip = λ can. refl })
+        (record {
+          missed = reads.missed;
+          desk = reads.quiet;
+          vault = λ can. refl;
+          chip = λ can. refl;
+        })
         (unchanged store) a
     refusal_story (refusal.Failed file) status fails a =
         line_story (Running order) before after status _
@@ -222,7 +230,12 @@ module _ (desk later : DeskAccount) (store : StoreAccount) (sink end : SinkAccou
           reads = record { order = order; runs = refl; comes = fails.comes };
           is = refl;
         }))
-        (record { missed = fails.missed; desk = fails.rose; vault = λ can. refl; chip = λ can. refl })
+        (record {
+          missed = fails.missed;
+          desk = fails.rose;
+          vault = λ can. refl;
+          chip = λ can. refl;
+        })
         (unchanged store) a
     refusal_story (refusal.Image fault) status reads a =
         line_story (Running order) before after status _
@@ -237,7 +250,12 @@ module _ (desk later : DeskAccount) (store : StoreAccount) (sink end : SinkAccou
           };
           is = refl;
         }))
-        (record { missed = reads.missed; desk = reads.quiet; vault = λ can. refl; chip = λ can. refl })
+        (record {
+          missed = reads.missed;
+          desk = reads.quiet;
+          vault = λ can. refl;
+          chip = λ can. refl;
+        })
         (unchanged store) a
     refusal_story (refusal.Script fault) status reads a =
         line_story (Running order) before after status _
@@ -252,7 +270,12 @@ module _ (desk later : DeskAccount) (store : StoreAccount) (sink end : SinkAccou
           };
           is = refl;
         }))
-        (record { missed = reads.missed; desk = reads.quiet; vault = λ can. refl; chip = λ can. refl })
+        (record {
+          missed = reads.missed;
+          desk = reads.quiet;
+          vault = λ can. refl;
+          chip = λ can. refl;
+        })
         (unchanged store) a
     refusal_story refusal.Memory status reads a =
         no_memory (Running order) status reads.missed reads.quiet a

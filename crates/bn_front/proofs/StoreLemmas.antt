@@ -1,5 +1,6 @@
 -- What a storage opens to, and what is due of it.
-use Rattle.std.proofs.Common.{◌≡◌, ℕ, ◌++◌, Bool, true, false, List, [], Option, Some, None, Result, Ok}
+use Rattle.std.proofs.Common.{◌≡◌, ℕ, ◌++◌, Bool, true, false, List, [], Option, Some, None, Result}
+use Rattle.std.proofs.Common.{Ok}
 use Rattle.std.proofs.Common.{Err, bytes_eq, codes, drop, inl, inr, refl, sym, ap, subst, ◌∙◌}
 use Rattle.std.proofs.lemmas.Slice.Eq.{bytes_eq-Decides}
 use Rattle.hex.specs.Hex.{encode_lower}
@@ -17,10 +18,12 @@ use Rattle.bn_model.specs.Reporting.{Files}
 use Rattle.bn_model.specs.StoredImages.{Malformed, Reading, Stored, count_in, head_fault, image_of}
 use Rattle.bn_model.specs.StoredImages.{order_fault, read_by, stored, unless_fault}
 use Rattle.bn_model.specs.StoredImages as images
-use Rattle.bn_model.specs.Storing.{Storage, committed, is_second_free, malformed_line, mismatch_line}
+use Rattle.bn_model.specs.Storing.{Storage, committed, is_second_free, malformed_line}
+use Rattle.bn_model.specs.Storing.{mismatch_line}
 use Rattle.bn_model.specs.Storing.{records_in, records_opened, records_read, written_if}
 use Rattle.bn_model.specs.WholeReports as whole
-use Rattle.bn_model.specs.WholeRuns.{Refused, Start, course_of, records_for, records_found, start_of}
+use Rattle.bn_model.specs.WholeRuns.{Refused, Start, course_of, records_for, records_found}
+use Rattle.bn_model.specs.WholeRuns.{start_of}
 use Rattle.bn_model.proofs.SegmentFacts.{byte-below}
 use Rattle.bn_model.proofs.StoredLemmas.{IsRead-from}
 use Rattle.bn_vault.specs.Committing as vault

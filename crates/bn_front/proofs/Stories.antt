@@ -35,7 +35,8 @@ use Rattle.bn_front.specs.Due.{AreTold, Begins, Device, Due, IsDue, IsOfCommit, 
 use Rattle.bn_front.specs.Due.{IsOfOpening, IsOfRun, IsOfStore, OfCommit, OfDesk, OfFiles}
 use Rattle.bn_front.specs.Due.{OfOpening, OfRun, OfStore, OpensStore, ReadsFile, Refuses}
 use Rattle.bn_front.specs.Due.{course_begun}
-use Rattle.bn_front.specs.Due.{TheChip, TheVault, act_at_end, due_text, ended, failed_line, finished}
+use Rattle.bn_front.specs.Due.{TheChip, TheVault, act_at_end, due_text, ended, failed_line}
+use Rattle.bn_front.specs.Due.{finished}
 use Rattle.bn_front.specs.Due.{missing_line, only, reported, storage_by, unfinished, unread}
 use Rattle.bn_front.specs.Due.{unwritten}
 use Rattle.bn_front.specs.Headline.{AllWork, CommitsRun, EndsRun, FailsBefore, FailsInLast}
@@ -202,11 +203,11 @@ module _ (task : Task) (desk : DeskAccount) (store : StoreAccount) (due : Due) w
   last_is : (last : Due) → due ≡ last → due.last.status ≡ last.last.status
   last_is last is = ap (λ (d : Due). d.last.status) is
 
-  run_status : (run : Course) (b : Bool) (P : Status → Type 0) → due ≡ finished b run
-      → P due.last.status → (P answer.Ended → ⊥) → (P answer.Limit → ⊥) → ⊥
-  run_status run b P is holds one other =
-      ended_by run (λ s. P s → ⊥) one other
-      (subst P (last_is (finished b run) is) holds)
+  run_status : (f : IsOfRun task desk store due) (P : Status → Type 0) → P due.last.status
+      → (P answer.Ended → ⊥) → (P answer.Limit → ⊥) → ⊥
+  run_status f P holds one other =
+      ended_by (course_begun f.run) (λ s. P s → ⊥) one other
+      (subst P (last_is (finished f.run.order.is_stored (course_begun f.run)) f.is) holds)
 
   missing_due : IsDue task desk store due → due.last.status ≡ answer.NoFile
       → (files : Files) × AreTold desk.files files × Misses task files (due_text due)
@@ -215,7 +216,7 @@ module _ (task : Task) (desk : DeskAccount) (store : StoreAccount) (due : Due) w
       (f.files, f.agrees, subst (λ (d : Due). Misses task f.files (due_text d)) (sym f.is) m)
   missing_due (OfStore f) e = let s = last_is _ f.is in absurd cc
   missing_due (OfRun f) e =
-      absurd (run_status (course_begun f.run) f.run.order.is_stored (λ s. s ≡ answer.NoFile) f.is e (λ s. cc) (λ s. cc))
+      absurd (run_status f (λ s. s ≡ answer.NoFile) e (λ s. cc) (λ s. cc))
   missing_due (OfDesk f) e = let s = last_is _ f.is in absurd cc
   missing_due (OfOpening TheVault f) e = let s = last_is _ f.is in absurd cc
   missing_due (OfOpening TheChip f) e = let s = last_is _ f.is in absurd cc
@@ -228,7 +229,7 @@ module _ (task : Task) (desk : DeskAccount) (store : StoreAccount) (due : Due) w
       absurd (refuses_desk task f.files f.last f.refuses (sym (last_is (only f.last) f.is) ∙ e))
   desk_due (OfStore f) e = let s = last_is _ f.is in absurd cc
   desk_due (OfRun f) e =
-      absurd (run_status (course_begun f.run) f.run.order.is_stored (λ s. s ≡ answer.DeskFault) f.is e (λ s. cc) (λ s. cc))
+      absurd (run_status f (λ s. s ≡ answer.DeskFault) e (λ s. cc) (λ s. cc))
   desk_due (OfDesk f) e = (f.file, f.reads, ap due_text f.is)
   desk_due (OfOpening TheVault f) e = let s = last_is _ f.is in absurd cc
   desk_due (OfOpening TheChip f) e = let s = last_is _ f.is in absurd cc
@@ -243,7 +244,7 @@ module _ (task : Task) (desk : DeskAccount) (store : StoreAccount) (due : Due) w
       absurd (refuses_vault task f.files f.last f.refuses (sym (last_is (only f.last) f.is) ∙ e))
   vault_due (OfStore f) e = let s = last_is _ f.is in absurd cc
   vault_due (OfRun f) e =
-      absurd (run_status (course_begun f.run) f.run.order.is_stored (λ s. s ≡ answer.VaultFault) f.is e (λ s. cc) (λ s. cc))
+      absurd (run_status f (λ s. s ≡ answer.VaultFault) e (λ s. cc) (λ s. cc))
   vault_due (OfDesk f) e = let s = last_is _ f.is in absurd cc
   vault_due (OfOpening TheVault f) e = inl f
   vault_due (OfOpening TheChip f) e = let s = last_is _ f.is in absurd cc
@@ -255,7 +256,7 @@ module _ (task : Task) (desk : DeskAccount) (store : StoreAccount) (due : Due) w
       absurd (refuses_chip task f.files f.last f.refuses (sym (last_is (only f.last) f.is) ∙ e))
   chip_due (OfStore f) e = let s = last_is _ f.is in absurd cc
   chip_due (OfRun f) e =
-      absurd (run_status (course_begun f.run) f.run.order.is_stored (λ s. s ≡ answer.ChipFault) f.is e (λ s. cc) (λ s. cc))
+      absurd (run_status f (λ s. s ≡ answer.ChipFault) e (λ s. cc) (λ s. cc))
   chip_due (OfDesk f) e = let s = last_is _ f.is in absurd cc
   chip_due (OfOpening TheVault f) e = let s = last_is _ f.is in absurd cc
   chip_due (OfOpening TheChip f) e = inl f
@@ -270,7 +271,7 @@ module _ (task : Task) (desk : DeskAccount) (store : StoreAccount) (due : Due) w
         → StorageStays before after
     kept_due (OfFiles f) b = stays_by f.last f.is
     kept_due (OfStore f) b = stays_by _ f.is
-    kept_due (OfRun f) b = absurd (run_status (course_begun f.run) f.run.order.is_stored IsBeforeRun f.is b (λ s. s) (λ s. s))
+    kept_due (OfRun f) b = absurd (run_status f IsBeforeRun b (λ s. s) (λ s. s))
     kept_due (OfDesk f) b = stays_by _ f.is
     kept_due (OfOpening device f) b = stays_by _ f.is
     kept_due (OfCommit TheVault f) b =

@@ -1,5 +1,6 @@
 -- What a call has to write, where no write fails: the lines of its events, and then a last line.
-use Rattle.std.specs.Prelude.{◌≡◌, ◌≢◌, ℕ, ◌*◌, Bool, true, false, List, [], ◌++◌, codes, Option, Some}
+use Rattle.std.specs.Prelude.{◌≡◌, ◌≢◌, ℕ, ◌*◌, Bool, true, false, List, [], ◌++◌, codes, Option}
+use Rattle.std.specs.Prelude.{Some}
 use Rattle.std.specs.Prelude.{None, Result, Ok, Err}
 use Rattle.bn_types.specs.declared.record.Record.{Record}
 use Rattle.bn_types.specs.declared.status.Status.TheVariants as status

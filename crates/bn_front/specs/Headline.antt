@@ -35,7 +35,8 @@ use Rattle.bn_front.specs.Due.{AreTold, Begins, Device, Due, IsDue, IsOfCommit, 
 use Rattle.bn_front.specs.Due.{ReadsFile, TheChip, TheVault, course_begun, due_text, failed_line}
 use Rattle.bn_front.specs.Due.{missing_line}
 use Rattle.bn_front.specs.Starts.{HoldBytes, RunMakes, StoreBytes, start_of}
-use Rattle.bn_front.specs.Stored.{CrashesOpenAlike, IsCommitted, IsLeft, IsSeen, Keeps, StorageStays}
+use Rattle.bn_front.specs.Stored.{CrashesOpenAlike, IsCommitted, IsLeft, IsSeen, Keeps}
+use Rattle.bn_front.specs.Stored.{StorageStays}
 use Rattle.bn_front.specs.Stored.{StoreAccount, areas_of, store_of}
 
 -- what is known of the outside
