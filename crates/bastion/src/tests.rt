@@ -1,6 +1,6 @@
-//! The program over words, files and a sink in memory.
+//! The program over words, files, a store and a sink in memory.
 use crate::run;
-use bn_edge::{MemDesk, MemSink, MemWords};
+use bn_edge::{MemChip, MemDesk, MemSink, MemVault, MemWords};
 use bn_types::Status;
 use std::alloc::{AllocError, Global};
 use std::test::Fail;
@@ -33,7 +33,12 @@ fn answer(alloc: Global, words: Vec<Text>, name: &[u8]) -> Result<(Status, Text)
     let mut out = MemSink::of(alloc, 4096, Vec::new(alloc))
         .ok()
         .ok_or("no memory")?;
-    let status = run(alloc, &MemWords::of(words), &mut desk, &mut out);
+    let mut vault = MemVault::of(alloc, b"", b"", Vec::new(alloc))
+        .ok()
+        .ok_or("no memory")?;
+    let mut chip = MemChip::of([0; 32], Vec::new(alloc));
+    let words = MemWords::of(words);
+    let status = run(alloc, &words, &mut desk, &mut vault, &mut chip, &mut out);
     Ok((status, Vec::from_slice(alloc, out.bytes())?))
 }
 

@@ -12,7 +12,7 @@ use Rattle.bn_front.specs.declared.item.Item.{Item}
 use Rattle.bn_front.specs.declared.option_name.OptionName.{OptionName}
 use Rattle.bn_front.specs.declared.option_name.OptionName.TheVariants as option
 use Rattle.bn_front.specs.Items.{item_by, item_meant, items_meant, name_meant}
-use Rattle.bn_front.specs.Built.{Running, Task, task_by, task_if, task_of}
+use Rattle.bn_front.specs.Built.{Running, Task, task_by, task_of}
 
 -- ---- pages stay in their frames
 
@@ -145,27 +145,17 @@ order_sized names words = by_texts (list_all flat.is_some_text words) words wher
 
 -- ---- the run of words
 
-pub record IsPlain (order : RunOrder) : Type 0 where
-  pub sized : IsSized order
-  pub unstored : order.is_stored ≡ false
-
 same_run : (one other : RunOrder) → ◌≡◌ {A = Task} (Running one) (Running other) → one ≡ other
 same_run one other e = cc
 
-pub run_is_plain : (words : List (List ℕ)) (order : RunOrder) → task_of words ≡ Running order
-    → IsPlain order
+pub run_is_sized : (words : List (List ℕ)) (order : RunOrder) → task_of words ≡ Running order
+    → IsSized order
 unfolding task_of
-run_is_plain words order e =
+run_is_sized words order e =
     by_order (flat.order_among flat.still_names words) (order_sized flat.still_names words) e
   where
-    by_store : (other : RunOrder) (b : Bool) → other.is_stored ≡ b → IsSized other
-        → task_if b other ≡ Running order → IsPlain order
-    by_store other true stored sized is = absurd cc
-    by_store other false stored sized is =
-        subst IsPlain (same_run other order is) (record { sized = sized; unstored = stored })
-
     by_order : (ordered : Option flat.Order) → AreSized ordered
-        → task_by ordered ≡ Running order → IsPlain order
+        → task_by ordered ≡ Running order → IsSized order
     by_order None sized is = absurd cc
     by_order (Some (flat.Gen number)) sized is = absurd cc
-    by_order (Some (flat.Run other)) sized is = by_store other other.is_stored refl sized is
+    by_order (Some (flat.Run other)) sized is = subst IsSized (same_run other order is) sized

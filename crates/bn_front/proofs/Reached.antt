@@ -1,14 +1,18 @@
 -- The states that the run of a call reaches.
 use Rattle.std.proofs.Common.{◌≡◌, ℕ, ◌-◌, ◌*◌, ◌≤◌, ◌⊎◌, List, [], ◌∷◌, ◌++◌, length}
 use Rattle.std.proofs.Common.{replicate}
-use Rattle.std.proofs.Common.{Option, Some, None, Result, Ok, Err, IfOk, inl, inr, refl, sym, ap}
-use Rattle.std.proofs.Common.{subst, ◌∙◌, arith}
+use Rattle.std.proofs.Common.{Bool, true, false, Option, Some, None, Result, Ok, Err, IfOk, inl}
+use Rattle.std.proofs.Common.{inr}
+use Rattle.std.proofs.Common.{refl, sym, ap, ap₂, subst, ◌∙◌, arith}
 use Rattle.std.proofs.lemmas.List.{length-replicate}
 use Rattle.std.proofs.lemmas.List.Elements.{All-nil}
+use Rattle.bn_edge.specs.Areas.{area_at}
+use Rattle.bn_edge.specs.declared.area.Area.{Area}
+use Rattle.bn_edge.specs.declared.area.Area.TheVariants.{First, Second}
 use Rattle.bn_types.specs.declared.event.Event.{Event}
-use Rattle.bn_types.specs.declared.event.Event.TheVariants.{Turn}
 use Rattle.bn_types.specs.declared.image_fault.ImageFault.{ImageFault}
 use Rattle.bn_types.specs.declared.line.Line.{Line}
+use Rattle.bn_types.specs.declared.record.Record.{Record}
 use Rattle.bn_types.specs.declared.script_fault.ScriptFault.{ScriptFault}
 use Rattle.bn_model.specs.BlankingLaws.{AllFit, HidesSecrets, IgnoresSecrets, after}
 use Rattle.bn_model.specs.CommandLines.{RunOrder}
@@ -16,33 +20,37 @@ use Rattle.bn_model.specs.Images as images
 use Rattle.bn_model.specs.Images.{image_of}
 use Rattle.bn_model.specs.Opening.{Image, opening}
 use Rattle.bn_model.specs.Records.{AreRecords}
-use Rattle.bn_model.specs.Reporting.{Files, Report, closing, report_of_course}
+use Rattle.bn_model.specs.Reporting.{Files}
+use Rattle.bn_model.specs.Reporting as said
 use Rattle.bn_model.specs.Running.{Blind, Course, IsNext, Reaches, course, state_before}
 use Rattle.bn_model.specs.Scripts.{IsOrderly, Script, script_in, script_of}
 use Rattle.bn_model.specs.Soundness.{IsPc, IsSound}
 use Rattle.bn_model.specs.Spelling.{text_of}
 use Rattle.bn_model.specs.State.{State, resting_hart}
 use Rattle.bn_model.specs.Stepping.{Fits, step}
-use Rattle.bn_model.specs.WholeRuns.{Refused, Start, image_in, image_loaded, script_file}
-use Rattle.bn_model.specs.WholeRuns.{script_for}
-use Rattle.bn_model.specs.WholeRuns.{script_read}
+use Rattle.bn_model.specs.Storing.{Storage}
+use Rattle.bn_model.specs.WholeRuns as whole
+use Rattle.bn_model.specs.WholeRuns.{Refused, Start, always, image_in, image_loaded, records_for}
+use Rattle.bn_model.specs.WholeRuns.{script_file, script_for, script_read}
 use Rattle.bn_model.proofs.BeforeLemmas.{sound-before}
-use Rattle.bn_model.proofs.BlankLemmas.{decision-blank}
 use Rattle.bn_model.proofs.ScriptLemmas.{first-events-fit, no-commands-orderly, script-orderly}
 use Rattle.bn_model.proofs.SoundKept.{sound-kept}
 use Rattle.bn_model.proofs.SoundOpening.{opening-sound}
 use Rattle.bn_model.proofs.UnseenLemmas.{unseen}
 use Rattle.bn_model.proofs.ZeroingLemmas.{hides-in-run}
-use Rattle.bn_machine.specs.Built.{is_built_event, is_built_turn}
-use Rattle.bn_front.specs.Built.{NoTask, Running, Task, Unbuilt, begins, course_of, report_of}
-use Rattle.bn_front.specs.Built.{report_of_start, report_of_task, task_of}
-use Rattle.bn_front.specs.Headline.{AreBlinded, WriteAlike}
-use Rattle.bn_front.specs.Starts.{AreBytes, HoldBytes, MakesFrom, RunMakes, if_begun, start_of}
-use Rattle.bn_front.specs.Starts.{start_of_task}
-use Rattle.bn_front.proofs.Beginnings.{IsBegun, parts}
+use Rattle.bn_front.specs.Built.{NoTask, Report, Running, Task, Unbuilt, has_store, report_of}
+use Rattle.bn_front.specs.Built.{report_of_task, task_of, told_as, uses_store}
+use Rattle.bn_front.specs.Due.{ended}
+use Rattle.bn_front.specs.Headline.{AreBlinded, OpensTo, StandUnder, WriteAlike}
+use Rattle.bn_front.specs.Starts.{AreBytes, HoldBytes, MakesFrom, RunMakes, StoreBytes, if_begun}
+use Rattle.bn_front.specs.Starts.{start_of, start_of_task}
+use Rattle.bn_front.specs.Stored.{areas_of}
+use Rattle.bn_front.proofs.Beginnings.{IsBegun, parts_read, start_parts}
+use Rattle.bn_front.proofs.Courses.{closing-ended}
 use Rattle.bn_front.proofs.ImageLemmas.{HasBytes, IsWhole, image_bytes, image_whole}
-use Rattle.bn_front.proofs.OrderLemmas.{IsPlain, run_is_plain}
+use Rattle.bn_front.proofs.OrderLemmas.{IsSized, run_is_sized}
 use Rattle.bn_front.proofs.ScriptFiles.{script_harts}
+use Rattle.bn_front.proofs.StoreLemmas.{found-in, opens_to, run_reported, stored-good}
 
 -- ---- the image
 
@@ -76,13 +84,13 @@ record IsScriptFor (harts : ℕ) (script : Script) : Type 0 where
   orderly : IsOrderly script
   same : script.harts ≡ harts
 
-read : (harts : ℕ) (name : Option (List ℕ)) (files : Files) (script : Script) → 1 ≤ harts
+script_is : (harts : ℕ) (name : Option (List ℕ)) (files : Files) (script : Script) → 1 ≤ harts
     → harts ≤ 4 → script_for harts name files ≡ Ok script → IsScriptFor harts script
-read harts None files script some few e =
+script_is harts None files script some few e =
     let same : script_of harts [] ≡ script = cc in
     subst (IsScriptFor harts) same
     (record { orderly = no-commands-orderly harts some few; same = refl })
-read harts (Some name) files script some few e = by_file (files name) e where
+script_is harts (Some name) files script some few e = by_file (files name) e where
   by_script : (text : List ℕ) (said : Result Script ScriptFault) → script_in harts text ≡ said
       → script_read said ≡ Ok script → IsScriptFor harts script
   by_script text (Err fault) is done = absurd cc
@@ -129,7 +137,7 @@ reached blind (next ∷ events) s before event sound fit makes =
     )
     by_place (inr later) deeper = deeper later
 
--- what is known of a run of a call over files of bytes
+-- what is known of a run of a call over files and areas of bytes
 record IsGood (start : Start) : Type 0 where
   sound : IsSound start.state
   begins : start.state.clock ≡ 0
@@ -138,30 +146,58 @@ record IsGood (start : Start) : Type 0 where
 no-records : AreRecords []
 no-records = record { few = omega arith; ascending = tt; whole = All-nil _ }
 
-clock-opening : (pages harts : ℕ) (image : Image) → (opening pages harts image []).clock ≡ 0
+clock-opening : (pages harts : ℕ) (image : Image) (records : List Record)
+    → (opening pages harts image records).clock ≡ 0
 unfolding opening
-clock-opening pages harts image = refl
+clock-opening pages harts image records = refl
 
 -- a machine has as many harts as are ordered
-pub harts_opening : (pages harts : ℕ) (image : Image) → 1 ≤ harts
-    → length (opening pages harts image []).harts ≡ harts
+pub harts_opening : (pages harts : ℕ) (image : Image) (records : List Record) → 1 ≤ harts
+    → length (opening pages harts image records).harts ≡ harts
 unfolding opening
-harts_opening pages harts image some =
+harts_opening pages harts image records some =
     let rest : length (replicate (harts - 1) resting_hart) ≡ harts - 1 =
     length-replicate (harts - 1) resting_hart in
     omega arith
 
-started : (order : RunOrder) (files : Files) (start : Start) → HoldBytes files → IsPlain order
-    → IsBegun order files start → IsGood start
-started order files start bytes plain begun =
-    let sized = plain.sized in
+-- and the records that it is given
+records-opening : (pages harts : ℕ) (image : Image) (records : List Record)
+    → (opening pages harts image records).records ≡ records
+unfolding opening
+records-opening pages harts image records = refl
+
+-- ---- the records
+
+-- what areas of bytes open to are records
+found-good : (is_stored : Bool) (storage : Storage) (records : List Record) → StoreBytes storage
+    → records_for is_stored storage ≡ Ok records → AreRecords records
+found-good false storage records bytes e =
+    let none : [] ≡ records = cc in subst AreRecords none no-records
+found-good true storage records bytes e =
+    by_opening (opens_to storage records (found-in storage records e))
+  where
+    by_area : (area : Area) → AreBytes (area_at area (areas_of storage))
+    by_area First = bytes.0
+    by_area Second = bytes.1
+
+    by_opening : StandUnder storage records → AreRecords records
+    by_opening (inl new) = subst AreRecords (sym new.1) no-records
+    by_opening (inr spelled) =
+        stored-good (area_at spelled.area (areas_of storage)) records (by_area spelled.area)
+        spelled.spelled
+
+started : (order : RunOrder) (files : Files) (storage : Storage) (start : Start)
+    → HoldBytes files → StoreBytes storage → IsSized order → IsBegun order files storage start
+    → IsGood start
+started order files storage start bytes areas sized begun =
     let most = sized.most_pages in
-    let good = loaded (4096 * order.ram_pages) (files order.image) begun.image (omega arith)
-    (bytes order.image) begun.loaded in
-    let script = read order.harts order.script files begun.script sized.some_harts
-    sized.few_harts begun.read in
+    let read = parts_read order files begun.parts begun.read in
+    let good = loaded (4096 * order.ram_pages) (files order.image) begun.parts.image (omega arith)
+    (bytes order.image) read.loaded in
+    let script = script_is order.harts order.script files begun.parts.script sized.some_harts
+    sized.few_harts read.read in
     subst IsGood (sym begun.is) (record {
-      sound = opening-sound order.ram_pages order.harts begun.image []
+      sound = opening-sound order.ram_pages order.harts begun.parts.image begun.records
           (record {
             some_harts = sized.some_harts;
             few_harts = sized.few_harts;
@@ -170,109 +206,164 @@ started order files start bytes plain begun =
             size = good.long;
             bytes = good.bytes;
             entry = good.entry;
-            good_order = no-records;
+            good_order = found-good order.is_stored storage begun.records areas begun.found;
           });
-      begins = clock-opening order.ram_pages order.harts begun.image;
-      fit = λ blind. first-events-fit blind order.steps begun.script
-          (opening order.ram_pages order.harts begun.image []) script.orderly
-          (harts_opening order.ram_pages order.harts begun.image sized.some_harts
-          ∙ sym script.same);
+      begins = clock-opening order.ram_pages order.harts begun.parts.image begun.records;
+      fit = λ blind. first-events-fit blind order.steps begun.parts.script
+          (opening order.ram_pages order.harts begun.parts.image begun.records) script.orderly
+          (harts_opening order.ram_pages order.harts begun.parts.image begun.records
+          sized.some_harts ∙ sym script.same);
     })
 
 -- a run begins where its order does
-record IsRun (words : List (List ℕ)) (files : Files) (start : Start) : Type 0 where
-  order : RunOrder
-  runs : task_of words ≡ Running order
-  starts : begins order files ≡ Ok start
+record IsRun (words : List (List ℕ)) (files : Files) (storage : Storage) (start : Start) : Type 0
+  where
+    order : RunOrder
+    runs : task_of words ≡ Running order
+    starts : whole.start_of order files storage ≡ Ok start
 
-run_of_words : (words : List (List ℕ)) (files : Files) (start : Start)
-    → start_of words files ≡ Some start → IsRun words files start
+run_of_words : (words : List (List ℕ)) (files : Files) (storage : Storage) (start : Start)
+    → start_of words files storage ≡ Some start → IsRun words files storage start
 unfolding start_of
-run_of_words words files start e = by_task (task_of words) refl e where
+run_of_words words files storage start e = by_task (task_of words) refl e where
   by_begun : (read : Result Start Refused) → if_begun read ≡ Some start → read ≡ Ok start
   by_begun (Err why) is = absurd cc
   by_begun (Ok other) is =
       let same : other ≡ start = cc in ap (λ (s : Start). Ok s) same
 
-  by_task : (task : Task) → task_of words ≡ task → start_of_task task files ≡ Some start
-      → IsRun words files start
+  by_task : (task : Task) → task_of words ≡ task → start_of_task task files storage ≡ Some start
+      → IsRun words files storage start
   by_task NoTask is said = absurd cc
   by_task Unbuilt is said = absurd cc
-  by_task (Running order) is said =
-      record { order = order; runs = is; starts = by_begun (begins order files) said }
+  by_task (Running order) is said = record {
+    order = order;
+    runs = is;
+    starts = by_begun (whole.start_of order files storage) said;
+  }
 
-good_start : (words : List (List ℕ)) (files : Files) (start : Start) → HoldBytes files
-    → start_of words files ≡ Some start → IsGood start
-good_start words files start bytes e =
-    let run = run_of_words words files start e in
-    let plain = run_is_plain words run.order run.runs in
-    started run.order files start bytes plain
-    (parts run.order files start plain.unstored run.starts)
+good_start : (words : List (List ℕ)) (files : Files) (storage : Storage) (start : Start)
+    → HoldBytes files → StoreBytes storage → start_of words files storage ≡ Some start
+    → IsGood start
+good_start words files storage start bytes areas e =
+    let run = run_of_words words files storage start e in
+    started run.order files storage start bytes areas (run_is_sized words run.order run.runs)
+    (start_parts run.order files storage start run.starts)
 
 -- the states that it reaches are sound, and each event that it makes fits
-pub reached-sound : (words : List (List ℕ)) (files : Files) (s : State) (event : Event)
-    → HoldBytes files → RunMakes words files s event → IsSound s × Fits s event
+pub reached-sound : (words : List (List ℕ)) (files : Files) (storage : Storage) (s : State)
+    (event : Event) → HoldBytes files → StoreBytes storage
+    → RunMakes words files storage s event → IsSound s × Fits s event
 unfolding RunMakes
-reached-sound words files s event bytes makes = by_start (start_of words files) refl makes
+reached-sound words files storage s event bytes areas makes =
+    by_start (start_of words files storage) refl makes
   where
-    by_start : (start : Option Start) → start_of words files ≡ start → MakesFrom start s event
-        → IsSound s × Fits s event
+    by_start : (start : Option Start) → start_of words files storage ≡ start
+        → MakesFrom start s event → IsSound s × Fits s event
     by_start None is makes = absurd makes
     by_start (Some start) is makes =
-        let good = good_start words files start bytes is in
+        let good = good_start words files storage start bytes areas is in
         reached start.blind start.events start.state s event good.sound (good.fit start.blind)
         makes
 
+-- ---- to what it opens
+
+pub opened-records : (words : List (List ℕ)) (files : Files) (storage : Storage) (start : Start)
+    → start_of words files storage ≡ Some start
+    → OpensTo (uses_store words) storage start.state.records
+opened-records words files storage start e =
+    let run = run_of_words words files storage start e in
+    let begun = start_parts run.order files storage start run.starts in
+    let records : start.state.records ≡ begun.records =
+    ap (λ (s : Start). s.state.records) begun.is
+    ∙ records-opening run.order.ram_pages run.order.harts begun.parts.image begun.records in
+    subst (λ (task : Task). OpensTo (has_store task) storage start.state.records) (sym run.runs)
+    (subst (λ (rs : List Record). OpensTo run.order.is_stored storage rs) (sym records)
+    (by_store run.order.is_stored begun.records begun.found))
+  where
+    by_store : (b : Bool) (records : List Record) → records_for b storage ≡ Ok records
+        → OpensTo b storage records
+    by_store false records found = let none : [] ≡ records = cc in sym none
+    by_store true records found = opens_to storage records (found-in storage records found)
+
 -- ---- what it doesn't show
 
-pub hidden-secrets : (words : List (List ℕ)) (files : Files) (start : Start) → HoldBytes files
-    → start_of words files ≡ Some start
+pub hidden-secrets : (words : List (List ℕ)) (files : Files) (storage : Storage) (start : Start)
+    → HoldBytes files → StoreBytes storage → start_of words files storage ≡ Some start
     → HidesSecrets start.blind start.state start.events
-hidden-secrets words files start bytes is =
-    let good = good_start words files start bytes is in
+hidden-secrets words files storage start bytes areas is =
+    let good = good_start words files storage start bytes areas is in
     (hides-in-run sound-kept start.blind start.state start.events good.sound
     (good.fit start.blind)).0
 
--- whether an event is built doesn't depend on secrets
-built-alike : IgnoresSecrets is_built_event
-unfolding is_built_event
-built-alike s (Turn h) m fits sound rest =
-    ap is_built_turn (decision-blank m s h fits sound rest)
+-- every event is built
+built-alike : IgnoresSecrets always
 built-alike s event m fits sound rest = refl
 
 -- the report of a call that runs
-report-of-start : (words : List (List ℕ)) (files : Files) (start : Start)
-    → start_of words files ≡ Some start
-    → report_of words files ≡ report_of_course (course_of start)
+report-of-start : (words : List (List ℕ)) (files : Files) (storage : Storage) (start : Start)
+    → start_of words files storage ≡ Some start
+    → (report_of words files storage).status ≡ (ended (whole.course_of start)).status
+    × (report_of words files storage).text
+    ≡ text_of (whole.course_of start).told ++ (ended (whole.course_of start)).text
 unfolding report_of
-report-of-start words files start e =
-    let run = run_of_words words files start e in
-    ap (λ (task : Task). report_of_task task files) run.runs ∙ ap report_of_start run.starts
+report-of-start words files storage start e =
+    let run = run_of_words words files storage start e in
+    let is = ap (λ (task : Task). report_of_task task files storage) run.runs
+    ∙ ap told_as (run_reported run.order files storage start run.starts) in
+    (ap (λ (r : Report). r.status) is, ap (λ (r : Report). r.text) is)
 
-pub written-alike : (words others : List (List ℕ)) (files : Files) (start : Start) (blind : Blind)
-    → HoldBytes files → AreBlinded words others files start blind
-    → WriteAlike (report_of words files) (report_of others files)
-    start blind
-written-alike words others files start blind bytes both =
-    let good = good_start words files start bytes both.runs in
+-- a course of which every event is built, and what closes it
+course-is : (start : Start)
+    → whole.course_of start ≡ course always start.blind start.state start.events
+unfolding whole.course_of
+course-is start = refl
+
+closed-by : (start : Start)
+    → said.report_of_course (course always start.blind start.state start.events)
+    ≡ record {
+      status = (ended (whole.course_of start)).status;
+      text = text_of (whole.course_of start).told ++ (ended (whole.course_of start)).text;
+    }
+closed-by start =
+    ap₂ (λ (run : Course) (close : said.Report). let r : said.Report = record close
+    { text = text_of run.told ++ close.text } in r)
+    (sym (course-is start))
+    (closing-ended start.blind start.state start.events ∙ ap ended (sym (course-is start)))
+
+pub written-alike : (words others : List (List ℕ)) (files : Files) (storage : Storage)
+    (start : Start) (blind : Blind) → HoldBytes files → StoreBytes storage
+    → AreBlinded words others files storage start blind
+    → WriteAlike (report_of words files storage) (report_of others files storage) start blind
+written-alike words others files storage start blind bytes areas both =
+    let good = good_start words files storage start bytes areas both.runs in
     let other : Start = record start { blind = Some blind } in
-    let plain : course_of start ≡ course is_built_event None start.state start.events =
-    ap (λ (b : Option Blind). course is_built_event b start.state start.events) both.plain in
-    let one_is = report-of-start words files start both.runs in
-    let other_is = report-of-start others files other both.blinded in
-    let alike = unseen sound-kept is_built_event blind start.state start.events built-alike
+    let plain : whole.course_of start ≡ course always None start.state start.events =
+    course-is start
+    ∙ ap (λ (b : Option Blind). course always b start.state start.events) both.plain in
+    let one_is = report-of-start words files storage start both.runs in
+    let other_is = report-of-start others files storage other both.blinded in
+    let alike = unseen sound-kept always blind start.state start.events built-alike
     (good.fit None) good.sound
     (let begins = good.begins in omega arith) in
     record {
       lines = λ before. record {
-        rest = (closing (course_of start).ending (course_of start).last).text;
-        rest_other = (closing (course_of other).ending (course_of other).last).text;
-        is = ap (λ (r : Report). r.text) one_is;
-        is_other = ap (λ (r : Report). r.text) other_is
+        rest = (ended (whole.course_of start)).text;
+        rest_other = (ended (whole.course_of other)).text;
+        is = one_is.1;
+        is_other = other_is.1
             ∙ ap (λ (told : List Line).
-            text_of told ++ (closing (course_of other).ending (course_of other).last).text)
-            ((alike before).0 ∙ sym (ap (λ (c : Course). c.told) plain));
+            text_of told ++ (ended (whole.course_of other)).text)
+            (ap (λ (c : Course). c.told) (course-is other) ∙ (alike before).0
+            ∙ sym (ap (λ (c : Course). c.told) plain));
       };
       whole = λ before after.
-          one_is ∙ ap report_of_course plain ∙ sym ((alike before).1 after) ∙ sym other_is;
+          let same : said.report_of_course (course always start.blind start.state start.events)
+          ≡ said.report_of_course (course always (Some blind) start.state start.events) =
+          ap (λ (b : Option Blind).
+          said.report_of_course (course always b start.state start.events))
+          both.plain ∙ sym ((alike before).1 after) in
+          let is = sym (closed-by start) ∙ same ∙ closed-by other in (
+            one_is.0 ∙ ap (λ (r : said.Report). r.status) is ∙ sym other_is.0,
+            one_is.1 ∙ ap (λ (r : said.Report). r.text) is ∙ sym other_is.1,
+          );
     }

@@ -28,10 +28,10 @@ use Rattle.bn_front.specs.declared.named_file.NamedFile.{NamedFile}
 use Rattle.bn_front.specs.declared.named_file.NamedFile.TheVariants as named
 use Rattle.bn_front.specs.declared.refusal.Refusal.{Refusal}
 use Rattle.bn_front.specs.declared.refusal.Refusal.TheVariants as refusal
-use Rattle.bn_front.specs.Headline.{AreTold, ComesTo}
+use Rattle.bn_front.specs.Due.{AreTold, ComesTo}
 use Rattle.bn_front.specs.Reading.{Fills, FindsScript, IsFront, Judges}
 use Rattle.bn_front.specs.Reading.{ReadsRun, files_seen, image_meant, refusal_of, seen_if}
-use Rattle.bn_front.proofs.Beginnings.{begun, image_refused, script_refused}
+use Rattle.bn_front.proofs.Beginnings.{both_read, image_refused, script_refused}
 use Rattle.bn_front.proofs.ImageLemmas.{IsWhole, front_of_image, image_whole}
 use Rattle.bn_front.proofs.ScriptFiles.{front_of_script, no_script}
 
@@ -331,14 +331,13 @@ module _ (order : RunOrder) (file : List ℕ) (old mid : DeskAccount)
         → asked mid.files other ≡ expected → asked old.files other ≡ expected
     before other expected e = ap (λ (told : Told). asked told other) (sym kept) ∙ e
 
-    pub inputs_read : (script : Script) → order.is_stored ≡ false
-        → FindsScript order file (Ok script) mid new
+    pub inputs_read : (script : Script) → FindsScript order file (Ok script) mid new
         → ReadsRun order (Ok (record { image = image; script = script })) old new
-    inputs_read script plain found = record {
+    inputs_read script found = record {
       files = shown found.other;
       agrees = seen_told old.files order.image (Some file) found.other;
       gives =
-          begun order (shown found.other) (image_meant image) script plain
+          both_read order (shown found.other) (image_meant image) script
           (loaded found.other _ accepted) (before found.other _ found.gives);
       missed = stays_on _ _ _ missed found.missed;
       quiet = stays_on _ _ _ quiet found.quiet;

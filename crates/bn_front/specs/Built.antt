@@ -1,14 +1,11 @@
--- What the program does, as far as it is built: no run with a store yet, and no generated one.
-use Rattle.std.specs.Prelude.{ℕ, Bool, true, false, List, [], codes, Option, Some, None, Result, Ok}
-use Rattle.std.specs.Prelude.{Err}
+-- What the program does, as far as it is built: no generated run yet.
+use Rattle.std.specs.Prelude.{ℕ, Bool, true, false, List, codes, Option, Some, None}
 use Rattle.bn_types.specs.declared.status.Status.{Status}
 use Rattle.bn_types.specs.declared.status.Status.TheVariants as status
 use Rattle.bn_model.specs.CommandLines.{Gen, Order, Run, RunOrder, order_among, still_names}
-use Rattle.bn_model.specs.Reporting.{Files, Report, report_of_course, unbuilt}
-use Rattle.bn_model.specs.Running.{Course, course}
-use Rattle.bn_model.specs.WholeRuns.{BadImage, BadScript, BadStore, NoFile, Refusal, Refused, Start}
-use Rattle.bn_model.specs.WholeRuns as whole
-use Rattle.bn_machine.specs.Built.{is_built_event}
+use Rattle.bn_model.specs.Reporting.{Files}
+use Rattle.bn_model.specs.Storing.{Storage}
+use Rattle.bn_model.specs.WholeReports as whole
 
 -- ---- what words ask for
 
@@ -17,51 +14,60 @@ pub data Task : Type 0 where
   NoTask : Task
   -- it isn't built yet
   Unbuilt : Task
-  -- a run without a store
   Running : (order : RunOrder) → Task
-
-abbrev pub task_if : (is_stored : Bool) → RunOrder → Task
-task_if true order = Unbuilt
-task_if false order = Running order
 
 abbrev pub task_by : Option Order → Task
 task_by None = NoTask
 task_by (Some (Gen number)) = Unbuilt
-task_by (Some (Run order)) = task_if order.is_stored order
+task_by (Some (Run order)) = Running order
 
 -- what some words ask for, of a machine whose pages stay in their frames
 unfoldable pub task_of : List (List ℕ) → Task
 task_of words = task_by (order_among still_names words)
 
+-- whether it opens the store, and commits it at the end
+abbrev pub has_store : Task → Bool
+has_store NoTask = false
+has_store Unbuilt = false
+has_store (Running order) = order.is_stored
+
+abbrev pub uses_store : List (List ℕ) → Bool
+uses_store words = has_store (task_of words)
+
 -- ---- what it comes to
 
--- where a run begins, or what refuses it; without a store no storage is looked at
-abbrev pub begins : RunOrder → Files → Result Start Refused
-begins order files =
-    whole.start_of order files (record { first = []; second = []; register = [] })
+-- how a call ends, what it writes, and the storage as it leaves it
+pub record Report : Type 0 where
+  pub status : Status
+  pub text : List ℕ
+  pub storage : Storage
 
--- the run, as far as it is built
-abbrev pub course_of : Start → Course
-course_of start = course is_built_event start.blind start.state start.events
+-- the statuses of the whole program are some of those of a call
+abbrev pub status_meant : whole.Status → Status
+status_meant whole.Ended = status.Ended
+status_meant whole.Limit = status.Limit
+status_meant whole.Words = status.Words
+status_meant whole.NoFile = status.NoFile
+status_meant whole.Image = status.Image
+status_meant whole.Script = status.Script
+status_meant whole.Store = status.Store
 
-abbrev pub refusal_status : Refusal → Status
-refusal_status NoFile = status.NoFile
-refusal_status BadImage = status.Image
-refusal_status BadScript = status.Script
-refusal_status BadStore = status.Store
+abbrev pub told_as : whole.Report → Report
+told_as report = record {
+  status = status_meant report.status;
+  text = report.text;
+  storage = report.storage;
+}
 
-abbrev pub report_of_start : Result Start Refused → Report
-report_of_start (Err why) = record { status = refusal_status why.refusal; text = why.line }
-report_of_start (Ok start) = report_of_course (course_of start)
+abbrev pub unbuilt_report : Storage → Report
+unbuilt_report storage =
+    record { status = status.Unbuilt; text = codes "unbuilt\n"; storage = storage }
 
-abbrev pub no_command : Report
-no_command = record { status = status.Words; text = codes "words\n" }
+abbrev pub report_of_task : Task → Files → Storage → Report
+report_of_task NoTask files storage = told_as (whole.report_of_order None files storage)
+report_of_task Unbuilt files storage = unbuilt_report storage
+report_of_task (Running order) files storage = told_as (whole.report_of_run order files storage)
 
-abbrev pub report_of_task : Task → Files → Report
-report_of_task NoTask files = no_command
-report_of_task Unbuilt files = unbuilt
-report_of_task (Running order) files = report_of_start (begins order files)
-
--- the status and the text of a call with these words
-unfoldable pub report_of : List (List ℕ) → Files → Report
-report_of words files = report_of_task (task_of words) files
+-- the status, the text and the storage of a call with these words
+unfoldable pub report_of : List (List ℕ) → Files → Storage → Report
+report_of words files storage = report_of_task (task_of words) files storage

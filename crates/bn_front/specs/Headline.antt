@@ -1,41 +1,55 @@
 -- What the one public call of the program promises: of its words, its status, and what is known of
 -- the outside before it and after it.
-use Rattle.std.specs.Prelude.{◌≡◌, ◌≢◌, ◌≤◌, ℕ, suc, ◌*◌, ◌⊎◌, List, ◌++◌, codes, Option, Some}
+use Rattle.std.specs.Prelude.{◌≡◌, ◌≢◌, ◌≤◌, ℕ, suc, ◌⊎◌, Bool, true, false, List, [], ◌++◌, Some}
 use Rattle.std.specs.Prelude.{None}
-use Rattle.std.specs.Prelude.{Ok}
+use Rattle.sha2.specs.Sha256.{sha256}
 use Rattle.bn_types.specs.Numbers.{page_at}
 use Rattle.bn_types.specs.declared.event.Event.{Event}
+use Rattle.bn_types.specs.declared.record.Record.{Record}
 use Rattle.bn_types.specs.declared.status.Status.{Status}
+use Rattle.bn_types.specs.declared.status.Status.TheVariants as answer
 use Rattle.bn_types.specs.declared.status.Status.TheVariants.{DeskFault, Memory, NoFile, SinkFault}
-use Rattle.bn_edge.specs.Accounts.{DeskAccount, SinkAccount}
+use Rattle.bn_types.specs.declared.status.Status.TheVariants.{ChipFault, VaultFault}
+use Rattle.bn_edge.specs.Accounts.{ChipAccount, DeskAccount, SinkAccount, VaultAccount}
+use Rattle.bn_edge.specs.Areas.{area_at}
 use Rattle.bn_edge.specs.Counts.{CanCount, IsToldBy, Rises, Stays}
-use Rattle.bn_edge.specs.Files.{file_named}
 use Rattle.bn_edge.specs.Written.{Writes, WritesFront}
+use Rattle.bn_edge.specs.declared.area.Area.{Area}
 use Rattle.bn_model.specs.BlankingLaws.{HidesSecrets, RestsAfterEach, RestsBeforeEach}
-use Rattle.bn_model.specs.CommandLines.{RunOrder}
-use Rattle.bn_model.specs.Opening.{Image}
-use Rattle.bn_model.specs.Reporting.{Files, Report}
+use Rattle.bn_model.specs.Reopening.{no_digest}
+use Rattle.bn_model.specs.Reporting.{Files}
 use Rattle.bn_model.specs.Running.{Blind}
 use Rattle.bn_model.specs.Soundness.{Has}
 use Rattle.bn_model.specs.Spelling.{text_of}
 use Rattle.bn_model.specs.State.{State, hart_at}
 use Rattle.bn_model.specs.Stepping.{step}
+use Rattle.bn_model.specs.StoredImages.{Stored, stored}
+use Rattle.bn_model.specs.Storing.{Storage}
 use Rattle.bn_model.specs.SwitchingLaws.{IsStart}
 use Rattle.bn_model.specs.Touching.{Touch, touch}
 use Rattle.bn_model.specs.TouchingLaws.{IsDeclared, IsGivenUp, IsStored, IsUnowned}
-use Rattle.bn_model.specs.WholeRuns.{Start, image_in}
+use Rattle.bn_model.specs.WholeRuns.{Start, course_of}
 use Rattle.bn_front.specs.declared.named_file.NamedFile.{NamedFile}
-use Rattle.bn_front.specs.declared.named_file.NamedFile.TheVariants as named
-use Rattle.bn_front.specs.Built.{Running, Task, course_of, report_of, report_of_task, task_of}
-use Rattle.bn_front.specs.Starts.{HoldBytes, RunMakes, start_of}
+use Rattle.bn_front.specs.Built.{Report, report_of, task_of, uses_store}
+use Rattle.bn_front.specs.Due.{AreTold, Begins, Device, Due, IsDue, IsOfCommit, IsOfOpening}
+use Rattle.bn_front.specs.Due.{ReadsFile, TheChip, TheVault, course_begun, due_text, failed_line}
+use Rattle.bn_front.specs.Due.{missing_line}
+use Rattle.bn_front.specs.Starts.{HoldBytes, RunMakes, StoreBytes, start_of}
+use Rattle.bn_front.specs.Stored.{CrashesOpenAlike, IsCommitted, IsLeft, IsSeen, Keeps}
+use Rattle.bn_front.specs.Stored.{StorageStays}
+use Rattle.bn_front.specs.Stored.{StoreAccount, areas_of, store_of}
 
 -- what is known of the outside
-pub record Outside : Type 0 where
+pub record Outside : Type 1 where
   pub desk : DeskAccount
+  pub store : StoreAccount
   pub sink : SinkAccount
 
-abbrev pub outside : DeskAccount → SinkAccount → Outside
-outside desk sink = record { desk = desk; sink = sink }
+abbrev pub outside : DeskAccount → VaultAccount → ChipAccount → SinkAccount → Outside
+outside desk vault chip sink =
+    record { desk = desk; store = store_of vault chip; sink = sink }
+
+-- ---- nothing fails
 
 -- the count could rise, and didn't
 abbrev pub IsQuiet : ℕ → ℕ → Type 0
@@ -45,97 +59,146 @@ IsQuiet old new = CanCount old × (new ≤ old)
 abbrev pub SinkWorks : Outside → Outside → Type 0
 SinkWorks old new = IsQuiet old.sink.faults new.sink.faults
 
--- and no reading
-abbrev pub AllWork : Outside → Outside → Type 0
-AllWork old new = SinkWorks old new × IsQuiet old.desk.faults new.desk.faults
+-- no call of the store failed, where it is used
+abbrev pub StoreWorks : (has_store : Bool) → StoreAccount → StoreAccount → Type 0
+StoreWorks false old new = Unit {0}
+StoreWorks true old new =
+    IsQuiet old.vault.faults new.vault.faults × IsQuiet old.chip.faults new.chip.faults
 
--- the files are those that a desk tells, where it tells them
-abbrev pub AreTold : Option (List (List ℕ × List ℕ)) → Files → Type 0
-AreTold None files = Unit {0}
-AreTold (Some told) files = (name : List ℕ) → files name ≡ file_named told name
+-- nothing failed at all
+pub record AllWork (words : List (List ℕ)) (old new : Outside) : Type 0 where
+  pub sink : SinkWorks old new
+  pub desk : IsQuiet old.desk.faults new.desk.faults
+  pub store : StoreWorks (uses_store words) old.store new.store
 
--- the report of the words was answered and written, for the files that the desk tells
+-- ---- the report
+
+-- a report was answered and written; where vault and chip told the storage before, and a crash
+-- would have left it, they tell the report's, and a crash would leave it
+pub record IsAnswered (status : Status) (storage : Storage) (report : Report) (old new : Outside)
+    : Type 0 where
+  pub answers : status ≡ report.status
+  pub written : Writes old.sink new.sink report.text
+  pub left : Keeps old.store storage → Keeps new.store report.storage
+
+-- so was the report of the words, for the files and the storage that are told
 pub record WritesReport (words : List (List ℕ)) (status : Status) (old new : Outside) : Type 0 where
   pub files : Files
   pub agrees : AreTold old.desk.files files
-  pub answers : status ≡ (report_of words files).status
-  pub written : Writes old.sink new.sink (report_of words files).text
+  pub is :
+      (storage : Storage) → IsSeen (uses_store words) old.store storage →
+      IsAnswered status storage (report_of words files storage) old new
 
--- ---- the two files
+-- ---- what was due
 
--- the call comes to reading the script: the image is there and accepted, and its file is another
-pub record ComesToScript (order : RunOrder) (desk : DeskAccount) : Type 0 where
-  pub files : Files
-  pub agrees : AreTold desk.files files
-  pub image : Image
-  pub accepted : image_in (4096 * order.ram_pages) (files order.image) ≡ Ok image
-  pub name : List ℕ
-  pub named : order.script ≡ Some name
-  pub other : name ≢ order.image
+-- what was due was answered and written whole, and the store is left so
+pub record IsAnswer (status : Status) (due : Due) (old new : Outside) : Type 0 where
+  pub said : due.last.status ≡ status
+  pub written : Writes old.sink new.sink (due_text due)
+  pub left : IsLeft due.act old.store new.store
 
--- it always comes to reading the image
-abbrev pub ComesTo : NamedFile → RunOrder → DeskAccount → Type 0
-ComesTo named.Image order desk = Unit {0}
-ComesTo named.Script order desk = ComesToScript order desk
+pub record WritesDue (words : List (List ℕ)) (status : Status) (old new : Outside) : Type 0 where
+  pub due : Due
+  pub is : IsDue (task_of words) old.desk old.store due
+  pub answered : IsAnswer status due old new
 
--- there is a run, which comes to reading the file
-pub record ReadsFile (task : Task) (file : NamedFile) (desk : DeskAccount) : Type 0 where
-  pub order : RunOrder
-  pub runs : task ≡ Running order
-  pub comes : ComesTo file order desk
+-- ---- faults
 
--- that a named file isn't there
-abbrev pub missing_line : NamedFile → List ℕ
-missing_line named.Image = codes "missing image\n"
-missing_line named.Script = codes "missing script\n"
-
--- that it couldn't be read
-abbrev pub failed_line : NamedFile → List ℕ
-failed_line named.Image = codes "desk image\n"
-failed_line named.Script = codes "desk script\n"
-
-abbrev pub desk_failed : NamedFile → Report
-desk_failed file = record { status = DeskFault; text = failed_line file }
-
--- such a line was written, of a file to which the call comes
+-- a line was written, of a file to which the call comes
 pub record WritesLine (line : NamedFile → List ℕ) (words : List (List ℕ)) (old new : Outside)
     : Type 0 where
   pub file : NamedFile
   pub reads : ReadsFile (task_of words) file old.desk
   pub written : Writes old.sink new.sink (line file)
 
--- ---- what is due
+-- a device of the store failed, in opening it or in committing it
+abbrev pub IsOfDevice : Device → List (List ℕ) → Outside → Due → Type 0
+IsOfDevice device words old due =
+    IsOfOpening device (task_of words) old.desk due ⊎
+    IsOfCommit device (task_of words) old.desk old.store due
 
--- the misses rise exactly where the report is of a missing file
-abbrev pub CountsMiss : Status → ℕ → ℕ → Type 0
-CountsMiss NoFile old new = Rises old new
-CountsMiss status old new = Stays old new
+-- what is due then was written, and the store is left so
+pub record WritesFault (device : Device) (words : List (List ℕ)) (old new : Outside) : Type 0 where
+  pub due : Due
+  pub is : IsOfDevice device words old due
+  pub written : Writes old.sink new.sink (due_text due)
+  pub left : IsLeft due.act old.store new.store
 
--- the report that a call has to write, where the desk doesn't fail
-pub record IsOfFiles (task : Task) (old new : DeskAccount) (report : Report) : Type 0 where
-  pub files : Files
-  pub agrees : AreTold old.files files
-  pub is : report ≡ report_of_task task files
-  pub missed : CountsMiss report.status old.misses new.misses
-  pub quiet : Stays old.faults new.faults
+-- a proper front of the last line was written, after the others
+pub record WritesFrontAfter (old new : SinkAccount) (lines last : List ℕ) : Type 0 where
+  pub front : List ℕ
+  pub rest : List ℕ
+  pub split : front ++ rest ≡ last
+  pub proper : rest ≢ []
+  pub written : Writes old new (lines ++ front)
 
--- and where it fails
-pub record IsOfFault (task : Task) (old new : DeskAccount) (report : Report) : Type 0 where
-  pub file : NamedFile
-  pub reads : ReadsFile task file old
-  pub is : report ≡ desk_failed file
-  pub missed : Stays old.misses new.misses
-  pub rose : Rises old.faults new.faults
+-- a line before the last one couldn't be written, and the store stays
+pub record FailsBefore (due : Due) (before after : StoreAccount) (old new : SinkAccount)
+    : Type 0 where
+  pub front : WritesFront old new due.lines
+  pub left : StorageStays before after
 
--- the report that is due
-abbrev pub IsDue : Task → DeskAccount → DeskAccount → Report → Type 0
-IsDue task old new report = IsOfFiles task old new report ⊎ IsOfFault task old new report
+-- or the last one couldn't, after what is done to the store
+pub record FailsInLast (due : Due) (before after : StoreAccount) (old new : SinkAccount)
+    : Type 0 where
+  pub front : WritesFrontAfter old new due.lines due.last.text
+  pub left : IsLeft due.act before after
 
--- a proper front of the report that was due was written
+abbrev pub FailsWithin : Due → StoreAccount → StoreAccount → SinkAccount → SinkAccount → Type 0
+FailsWithin due before after old new =
+    FailsBefore due before after old new ⊎ FailsInLast due before after old new
+
+-- a proper front of what was due was written
 pub record WritesFrontOfDue (words : List (List ℕ)) (old new : Outside) : Type 0 where
-  pub report : Report
-  pub due : IsDue (task_of words) old.desk new.desk report
-  pub front : WritesFront old.sink new.sink report.text
+  pub due : Due
+  pub is : IsDue (task_of words) old.desk old.store due
+  pub fails : FailsWithin due old.store new.store old.sink new.sink
+  pub front : WritesFront old.sink new.sink (due_text due)
+
+-- no count rose
+pub record CountsStay (old new : Outside) : Type 0 where
+  pub missed : Stays old.desk.misses new.desk.misses
+  pub desk : Stays old.desk.faults new.desk.faults
+  pub vault : Stays old.store.vault.faults new.store.vault.faults
+  pub chip : Stays old.store.chip.faults new.store.chip.faults
+
+-- ---- storage
+
+-- the statuses of calls that end before a run does
+abbrev pub IsBeforeRun : Status → Type 0
+IsBeforeRun answer.Ended = ⊥
+IsBeforeRun answer.Limit = ⊥
+IsBeforeRun answer.SinkFault = ⊥
+IsBeforeRun answer.VaultFault = ⊥
+IsBeforeRun answer.ChipFault = ⊥
+IsBeforeRun status = Unit {0}
+
+-- the statuses of runs that end
+abbrev pub EndsRun : Status → Type 0
+EndsRun answer.Ended = Unit {0}
+EndsRun answer.Limit = Unit {0}
+EndsRun status = ⊥
+
+-- the records of a run's last state were committed
+pub record CommitsRun (words : List (List ℕ)) (old new : Outside) : Type 0 where
+  pub run : Begins (task_of words) old.desk old.store
+  pub committed : IsCommitted (course_begun run).last.records old.store new.store
+
+-- an area has the register's digest and spells these records
+pub record IsSpelled (storage : Storage) (records : List Record) : Type 0 where
+  pub area : Area
+  pub digest : sha256 (area_at area (areas_of storage)) ≡ storage.register
+  pub spelled : stored (area_at area (areas_of storage)) ≡ Stored records
+
+-- the records of a new machine, whose register is zeros, or of an area with the register's digest
+abbrev pub StandUnder : Storage → List Record → Type 0
+StandUnder storage records =
+    ((storage.register ≡ no_digest) × (records ≡ [])) ⊎ IsSpelled storage records
+
+-- a run opens its store to such records, and has none without a store
+abbrev pub OpensTo : (has_store : Bool) → Storage → List Record → Type 0
+OpensTo false storage records = records ≡ []
+OpensTo true storage records = StandUnder storage records
 
 -- ---- what a run does
 
@@ -160,11 +223,11 @@ StartsModules s event =
 
 -- the words order the run that begins so, and the other words the same run with a module's secrets
 -- zeroed before an event
-pub record AreBlinded (words others : List (List ℕ)) (files : Files) (start : Start) (blind : Blind)
-    : Type 0 where
-  pub runs : start_of words files ≡ Some start
+pub record AreBlinded (words others : List (List ℕ)) (files : Files) (storage : Storage)
+    (start : Start) (blind : Blind) : Type 0 where
+  pub runs : start_of words files storage ≡ Some start
   pub plain : start.blind ≡ None
-  pub blinded : start_of others files ≡ Some (record start { blind = Some blind })
+  pub blinded : start_of others files storage ≡ Some (record start { blind = Some blind })
 
 -- two texts that begin with the same
 pub record BeginWith (front one other : List ℕ) : Type 0 where
@@ -175,40 +238,66 @@ pub record BeginWith (front one other : List ℕ) : Type 0 where
 
 -- Two runs, of which the second differs by a module's secrets alone, from an event on. Where the
 -- module rests before each event from there on, so that at most the last of them starts it, both
--- write the same lines; where it rests after each of them too, both reports are the same.
+-- write the same lines; where it rests after each of them too, both have the same status and write
+-- the same.
 pub record WriteAlike (one other : Report) (start : Start) (blind : Blind) : Type 0 where
   pub lines :
       RestsBeforeEach blind.blinded.0 blind.event start.state start.events →
       BeginWith (text_of (course_of start).told) one.text other.text
   pub whole :
       RestsBeforeEach blind.blinded.0 blind.event start.state start.events →
-      RestsAfterEach blind.blinded.0 blind.event start.state start.events → one ≡ other
+      RestsAfterEach blind.blinded.0 blind.event start.state start.events →
+      (one.status ≡ other.status) × (one.text ≡ other.text)
 
 pub record Promise (words : List (List ℕ)) (status : Status) (old new : Outside) : Type 0 where
   -- where no count of faults rose, the flat machine's report is written, or memory ran out
-  pub exact : AllWork old new → status ≢ Memory → WritesReport words status old new
+  pub exact : AllWork words old new → status ≢ Memory → WritesReport words status old new
+  -- whatever vault, chip and desk tell or not, what was due is written, as far as the sink works
+  pub whole : status ≢ Memory → status ≢ SinkFault → WritesDue words status old new
   -- when each fault comes
   pub sink_fault : IsToldBy (status ≡ SinkFault) old.sink.faults new.sink.faults
   pub no_file : SinkWorks old new → IsToldBy (status ≡ NoFile) old.desk.misses new.desk.misses
   pub desk_fault : SinkWorks old new → IsToldBy (status ≡ DeskFault) old.desk.faults new.desk.faults
+  pub vault_fault :
+      SinkWorks old new →
+      IsToldBy (status ≡ VaultFault) old.store.vault.faults new.store.vault.faults
+  pub chip_fault :
+      SinkWorks old new →
+      IsToldBy (status ≡ ChipFault) old.store.chip.faults new.store.chip.faults
   -- what each of them leaves
   pub front : status ≡ SinkFault → WritesFrontOfDue words old new
   pub missing_line : status ≡ NoFile → WritesLine missing_line words old new
   pub desk_line : status ≡ DeskFault → WritesLine failed_line words old new
+  pub vault_line : status ≡ VaultFault → WritesFault TheVault words old new
+  pub chip_line : status ≡ ChipFault → WritesFault TheChip words old new
   pub untouched : status ≡ Memory → new.sink.written ≡ old.sink.written
-  pub uncounted : status ≡ Memory → Stays old.desk.misses new.desk.misses
+  pub uncounted : status ≡ Memory → CountsStay old new
+  -- what stands stored: as before where the call ends before a run, with the last state's records
+  -- after one, and nothing else at any crash since the call began
+  pub kept : IsBeforeRun status → StorageStays old.store new.store
+  pub committed : uses_store words ≡ true → EndsRun status → CommitsRun words old new
+  pub any_moment : CrashesOpenAlike old.store new.store
+  -- to which records a store opens
+  pub opened :
+      (files : Files) (storage : Storage) (start : Start) →
+      start_of words files storage ≡ Some start →
+      OpensTo (uses_store words) storage start.state.records
   -- who touches the guest's pages in a run, and which of them change
-  pub touched : (files : Files) (s : State) (event : Event) → RunMakes words files s event →
-      IsAdmitted s event
+  pub touched :
+      (files : Files) (storage : Storage) (s : State) (event : Event) →
+      RunMakes words files storage s event → IsAdmitted s event
   -- how modules start in it
-  pub started : (files : Files) (s : State) (event : Event) → HoldBytes files →
-      RunMakes words files s event → StartsModules s event
+  pub started :
+      (files : Files) (storage : Storage) (s : State) (event : Event) →
+      HoldBytes files → StoreBytes storage → RunMakes words files storage s event →
+      StartsModules s event
   -- that it shows nothing of a module's private pages and saved registers while the module rests
-  pub zeroed : (files : Files) (start : Start) → HoldBytes files →
-      start_of words files ≡ Some start →
+  pub zeroed :
+      (files : Files) (storage : Storage) (start : Start) →
+      HoldBytes files → StoreBytes storage → start_of words files storage ≡ Some start →
       HidesSecrets start.blind start.state start.events
   -- and so zeroing them changes nothing of what is written until the module runs
   pub alike :
-      (files : Files) (start : Start) (others : List (List ℕ)) (blind : Blind) →
-      HoldBytes files → AreBlinded words others files start blind →
-      WriteAlike (report_of words files) (report_of others files) start blind
+      (files : Files) (storage : Storage) (start : Start) (others : List (List ℕ)) (blind : Blind) →
+      HoldBytes files → StoreBytes storage → AreBlinded words others files storage start blind →
+      WriteAlike (report_of words files storage) (report_of others files storage) start blind

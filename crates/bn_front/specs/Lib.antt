@@ -1,7 +1,9 @@
 pub mod Built
+pub mod Due
 pub mod Headline
 pub mod Items
 pub mod Meant
 pub mod Reading
 pub mod Starts
+pub mod Stored
 pub mod Story

@@ -9,18 +9,19 @@ use Rattle.bn_edge.specs.Counts.{Rises, Stays}
 use Rattle.bn_edge.specs.Files.{file_named}
 use Rattle.bn_loader.specs.declared.loaded.Loaded.{Loaded}
 use Rattle.bn_model.specs.CommandLines.{RunOrder}
-use Rattle.bn_model.specs.Opening.{Image, opening}
+use Rattle.bn_model.specs.Opening.{Image}
 use Rattle.bn_model.specs.Reporting.{Files, fault_line}
-use Rattle.bn_model.specs.Scripts.{Script, first_events}
-use Rattle.bn_model.specs.WholeRuns.{BadImage, BadScript, NoFile, Refused, Start, refused}
-use Rattle.bn_model.specs.WholeRuns.{script_for, script_line}
+use Rattle.bn_model.specs.Scripts.{Script}
+use Rattle.bn_model.specs.WholeRuns.{◌>>=◌, BadImage, BadScript, NoFile, Refused, Start, image_in}
+use Rattle.bn_model.specs.WholeRuns.{refused, script_for, script_line}
+use Rattle.bn_types.specs.declared.record.Record.{Record}
 use Rattle.bn_front.specs.declared.inputs.Inputs.{Inputs}
 use Rattle.bn_front.specs.declared.named_file.NamedFile.{NamedFile}
 use Rattle.bn_front.specs.declared.named_file.NamedFile.TheVariants as named
 use Rattle.bn_front.specs.declared.refusal.Refusal.{Refusal}
 use Rattle.bn_front.specs.declared.refusal.Refusal.TheVariants as refusal
-use Rattle.bn_front.specs.Built.{begins}
-use Rattle.bn_front.specs.Headline.{AreTold, ComesTo, missing_line}
+use Rattle.bn_front.specs.Due.{AreTold, ComesTo, missing_line}
+use Rattle.bn_front.specs.Starts.{Parts, start_from}
 
 -- ---- refusals
 
@@ -56,13 +57,20 @@ CountsMissing result old new = Stays old new
 abbrev pub image_meant : Loaded → Image
 image_meant image = record { bytes = image.bytes.items; entry = image.entry }
 
--- where a run with these inputs begins
-abbrev pub start_with : RunOrder → Inputs → Start
-start_with order inputs = record {
-  state = opening order.ram_pages order.harts (image_meant inputs.image) [];
-  events = first_events order.steps inputs.script;
-  blind = order.blind;
-}
+abbrev pub parts_meant : Inputs → Parts
+parts_meant inputs = record { image = image_meant inputs.image; script = inputs.script }
+
+-- what the files of a run come to, or what refuses it before its store is opened: the image's file,
+-- the image, the script's file, the script
+unfoldable pub parts_of : RunOrder → Files → Result Parts Refused
+parts_of order files =
+    image_in (4096 * order.ram_pages) (files order.image)
+    >>= (λ image. script_for order.harts order.script files
+    >>= (λ script. Ok (record { image = image; script = script })))
+
+-- where a run begins that has these inputs and records
+abbrev pub start_with : RunOrder → Inputs → List Record → Start
+start_with order inputs records = start_from order (parts_meant inputs) records
 
 -- an image fills RAM and is entered at an instruction
 pub record Fills (pages : ℕ) (image : Loaded) : Type 0 where
@@ -104,7 +112,7 @@ pub record ReadsInputs (order : RunOrder) (result : Result Inputs Refusal) (old 
     : Type 0 where
   pub files : Files
   pub agrees : AreTold old.files files
-  pub gives : Gives (λ inputs. start_with order inputs) (begins order files) result
+  pub gives : Gives (λ inputs. parts_meant inputs) (parts_of order files) result
   pub missed : CountsMissing result old.misses new.misses
   pub quiet : Stays old.faults new.faults
 

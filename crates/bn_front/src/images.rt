@@ -23,8 +23,7 @@ pub fn read_inputs<D: Desk>(
     order: &RunOrder,
     desk: &mut D,
 ) -> Result<Inputs, Refusal>
-    requires range { IsInRange (own_meant order.now) }
-    requires plain { order.now.store ≡ false }
+    requires { IsInRange (own_meant order.now) }
     ensures reads { ReadsRun (own_meant order.now) result
         (D.account desk.old) (D.account desk.new) }
     ensures fit { IfOk result (λ inputs. Fit (own_meant order.now) inputs) }

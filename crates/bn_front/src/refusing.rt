@@ -2,7 +2,7 @@
 ghost use Rattle.std.specs.Prelude.{◌≡◌, ◌+◌, ◌++◌, ◌≤◌, length};
 ghost use Rattle.bn_model.specs.Reporting as flat;
 ghost use Rattle.bn_model.specs.WholeRuns as runs;
-ghost use Rattle.bn_front.specs.Headline.{desk_failed, missing_line};
+ghost use Rattle.bn_front.specs.Due.{desk_failed, missing_line};
 ghost use Rattle.bn_front.specs.Story.{AnswersRefusal, AnswersReport, CountsSinkFault};
 
 use crate::named_file::NamedFile;

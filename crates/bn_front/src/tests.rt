@@ -1,5 +1,5 @@
 use crate::bastion;
-use bn_edge::{MemDesk, MemSink};
+use bn_edge::{MemChip, MemDesk, MemSink, MemVault};
 use bn_types::Status;
 use std::alloc::{AllocError, Global};
 use std::process::Abort;
@@ -30,6 +30,7 @@ mod scripted_guest;
 mod scripts;
 mod secure_words;
 mod storing;
+mod stores;
 mod superpages;
 mod switches;
 mod top;
@@ -132,8 +133,10 @@ fn call_words(
     pieces: &[&str],
 ) -> Status {
     let mut desk = desk_of(alloc, files, &[]).expect(rt, "memory");
+    let mut vault = MemVault::of(alloc, b"", b"", Vec::new(alloc)).expect(rt, "memory");
+    let mut chip = MemChip::of([0; 32], Vec::new(alloc));
     let mut out = MemSink::of(alloc, 16_384, Vec::new(alloc)).expect(rt, "memory");
-    let status = bastion(alloc, words, &mut desk, &mut out);
+    let status = bastion(alloc, words, &mut desk, &mut vault, &mut chip, &mut out);
     let expected = text(alloc, pieces).expect(rt, "memory");
     assert_eq!(rt; out.bytes(), expected.as_bytes(), "of {words:?}");
     status

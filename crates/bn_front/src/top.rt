@@ -1,45 +1,68 @@
 //! The one call that the program makes.
-ghost use Rattle.std.specs.Prelude.{Some};
-ghost use Rattle.bn_front.specs.Built.{task_by, task_if, task_of};
+ghost use Rattle.std.specs.Prelude.{◌≡◌, Some, false};
+ghost use Rattle.bn_front.specs.Built.{has_store, task_by, task_of, uses_store};
+ghost use Rattle.bn_front.specs.Built.{Running};
 ghost use Rattle.bn_front.specs.Headline.{Promise, outside};
 ghost use Rattle.bn_front.specs.Meant.{AreInRange, IsInRange, bytes_of_words, order_meant};
 ghost use Rattle.bn_front.specs.Meant.{own_meant};
 ghost use Rattle.bn_front.specs.Story.{AnswersWords, CountsSinkFault, IsStory};
 
 use crate::images::read_inputs;
+use crate::plain::serve_plain;
 use crate::refusing::refuse;
-use crate::report::{say, serve_inputs};
+use crate::report::say;
+use crate::stored::serve_stored;
 use crate::{Order, RunOrder, WordsError, read_words};
-use bn_edge::{Desk, Sink};
+use bn_edge::{Chip, Desk, Sink, Vault};
 use bn_types::Status;
 use std::alloc::Global;
 
 /// Reads the words, runs the image that they name by their script and writes the trace.
 ///
-/// The words are those that `read_words` reads. Of what they order only runs without `--store` are
-/// built yet. Where nothing fails, the status and the text are those of the report of the flat
+/// The words are those that `read_words` reads. A run with `--store` opens its store from vault and
+/// chip before it begins, and commits it once it has ended, before the end line is written; any
+/// other call leaves vault and chip alone. Of what words order only `gen` isn't built yet. Where
+/// nothing fails, the status, the text and what stands stored are those of the report of the flat
 /// machine.
-pub fn bastion<D: Desk, O: Sink>(
+pub fn bastion<D: Desk, V: Vault, C: Chip, O: Sink>(
     alloc: Global,
     words: &[Vec<u8>],
     desk: &mut D,
+    vault: &mut V,
+    chip: &mut C,
     out: &mut O,
 ) -> Status
     ensures promise { Promise (bytes_of_words words.now) result
-        (outside (D.account desk.old) (O.account out.old))
-        (outside (D.account desk.new) (O.account out.new)) }
+        (outside (D.account desk.old) (V.account vault.old)
+        (C.account chip.old) (O.account out.old))
+        (outside (D.account desk.new) (V.account vault.new)
+        (C.account chip.new) (O.account out.new)) }
+    // Without a store neither vault nor chip is called.
+    ensures uncalled { uses_store (bytes_of_words words.now) ≡ false →
+        (vault.new ≡ vault.old) × (chip.new ≡ chip.old) }
 {
-    serve(alloc, words, desk, out)
+    serve(alloc, words, desk, vault, chip, out)
 }
 
-fn serve<D: Desk, O: Sink>(alloc: Global, words: &[Vec<u8>], desk: &mut D, out: &mut O) -> Status
+fn serve<D: Desk, V: Vault, C: Chip, O: Sink>(
+    alloc: Global,
+    words: &[Vec<u8>],
+    desk: &mut D,
+    vault: &mut V,
+    chip: &mut C,
+    out: &mut O,
+) -> Status
     ensures story { IsStory result (task_of (bytes_of_words words.now))
-        (outside (D.account desk.old) (O.account out.old))
-        (outside (D.account desk.new) (O.account out.new)) }
+        (outside (D.account desk.old) (V.account vault.old)
+        (C.account chip.old) (O.account out.old))
+        (outside (D.account desk.new) (V.account vault.new)
+        (C.account chip.new) (O.account out.new)) }
     ensures counted { CountsSinkFault result (O.account out.old).faults (O.account out.new).faults }
+    ensures uncalled { has_store (task_of (bytes_of_words words.now)) ≡ false →
+        (vault.new ≡ vault.old) × (chip.new ≡ chip.old) }
 {
     match read_words(alloc, words) {
-        Ok(order) => serve_order(alloc, &order, desk, out),
+        Ok(order) => serve_order(alloc, &order, desk, vault, chip, out),
         Err(error) => refuse_words(error, out),
     }
 }
@@ -54,31 +77,55 @@ fn refuse_words<O: Sink>(error: WordsError, out: &mut O) -> Status
     }
 }
 
-fn serve_order<D: Desk, O: Sink>(alloc: Global, order: &Order, desk: &mut D, out: &mut O) -> Status
+fn serve_order<D: Desk, V: Vault, C: Chip, O: Sink>(
+    alloc: Global,
+    order: &Order,
+    desk: &mut D,
+    vault: &mut V,
+    chip: &mut C,
+    out: &mut O,
+) -> Status
     requires { AreInRange (order_meant order.now) }
     ensures story { IsStory result (task_by (Some (order_meant order.now)))
-        (outside (D.account desk.old) (O.account out.old))
-        (outside (D.account desk.new) (O.account out.new)) }
+        (outside (D.account desk.old) (V.account vault.old)
+        (C.account chip.old) (O.account out.old))
+        (outside (D.account desk.new) (V.account vault.new)
+        (C.account chip.new) (O.account out.new)) }
     ensures counted { CountsSinkFault result (O.account out.old).faults (O.account out.new).faults }
+    ensures uncalled { has_store (task_by (Some (order_meant order.now))) ≡ false →
+        (vault.new ≡ vault.old) × (chip.new ≡ chip.old) }
 {
     match order {
-        Order::Run(run) => serve_run(alloc, run, desk, out),
+        Order::Run(run) => serve_run(alloc, run, desk, vault, chip, out),
         Order::Gen(_) => say(out, b"unbuilt\n", Status::Unbuilt),
     }
 }
 
-fn serve_run<D: Desk, O: Sink>(alloc: Global, order: &RunOrder, desk: &mut D, out: &mut O) -> Status
+fn serve_run<D: Desk, V: Vault, C: Chip, O: Sink>(
+    alloc: Global,
+    order: &RunOrder,
+    desk: &mut D,
+    vault: &mut V,
+    chip: &mut C,
+    out: &mut O,
+) -> Status
     requires { IsInRange (own_meant order.now) }
-    ensures story { IsStory result (task_if order.now.store (own_meant order.now))
-        (outside (D.account desk.old) (O.account out.old))
-        (outside (D.account desk.new) (O.account out.new)) }
+    ensures story { IsStory result (Running (own_meant order.now))
+        (outside (D.account desk.old) (V.account vault.old)
+        (C.account chip.old) (O.account out.old))
+        (outside (D.account desk.new) (V.account vault.new)
+        (C.account chip.new) (O.account out.new)) }
     ensures counted { CountsSinkFault result (O.account out.old).faults (O.account out.new).faults }
+    ensures uncalled { order.now.store ≡ false →
+        (vault.new ≡ vault.old) × (chip.new ≡ chip.old) }
 {
+    let inputs = match read_inputs(alloc, order, desk) {
+        Ok(inputs) => inputs,
+        Err(refusal) => return refuse(refusal, out),
+    };
     if order.store {
-        return say(out, b"unbuilt\n", Status::Unbuilt);
-    }
-    match read_inputs(alloc, order, desk) {
-        Ok(inputs) => serve_inputs(alloc, order, inputs, out),
-        Err(refusal) => refuse(refusal, out),
+        serve_stored(alloc, order, inputs, vault, chip, out)
+    } else {
+        serve_plain(alloc, order, inputs, out)
     }
 }

@@ -3,7 +3,7 @@
 use super::called::{Called, expect_calls};
 use super::{HELLO, bytes_of_code, call, desk_of, words_of};
 use crate::bastion;
-use bn_edge::MemSink;
+use bn_edge::{MemChip, MemSink, MemVault};
 use bn_types::Status;
 use std::alloc::{AllocError, Global};
 use std::process::Abort;
@@ -266,7 +266,9 @@ fn expect_desk_fault(rt: &impl Abort, alloc: Global, fails: &[u64], text: &str) 
     let files: [(&str, &[u8]); 2] = [("a.img", &image), ("s", b"jump")];
     let mut desk = desk_of(alloc, &files, fails).expect(rt, "memory");
     let mut out = MemSink::of(alloc, 4096, Vec::new(alloc)).expect(rt, "memory");
-    let status = bastion(alloc, &words, &mut desk, &mut out);
+    let mut vault = MemVault::of(alloc, b"", b"", Vec::new(alloc)).expect(rt, "memory");
+    let mut chip = MemChip::of([0; 32], Vec::new(alloc));
+    let status = bastion(alloc, &words, &mut desk, &mut vault, &mut chip, &mut out);
     assert_eq!(rt; status, Status::DeskFault);
     assert_eq!(rt; out.bytes(), text.as_bytes());
 }

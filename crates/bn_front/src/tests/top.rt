@@ -2,7 +2,7 @@
 //! another program.
 use super::{HELLO, bytes_of_code, call, desk_of, words_of};
 use crate::bastion;
-use bn_edge::MemSink;
+use bn_edge::{MemChip, MemSink, MemVault};
 use bn_types::Status;
 use std::alloc::{AllocError, Global};
 use std::process::Abort;
@@ -181,7 +181,10 @@ fn check_faults(
     let mut desk = desk_of(alloc, &[("a.img", &bytes)], desk_fails).expect(rt, "memory");
     let fails = Vec::from_slice(alloc, sink_fails).expect(rt, "memory");
     let mut out = MemSink::of(alloc, room, fails).expect(rt, "memory");
-    assert_eq!(rt; bastion(alloc, &words, &mut desk, &mut out), status);
+    let mut vault = MemVault::of(alloc, b"", b"", Vec::new(alloc)).expect(rt, "memory");
+    let mut chip = MemChip::of([0; 32], Vec::new(alloc));
+    let answer = bastion(alloc, &words, &mut desk, &mut vault, &mut chip, &mut out);
+    assert_eq!(rt; answer, status);
     assert_eq!(rt; out.bytes(), text.as_bytes());
 }
 

@@ -34,7 +34,7 @@ returns-in-Ok-read_script-clause-reads g c =
     (subst (λ (file : List ℕ). Judges (λ image. image_meant image)
     (image_in (4096 * c.args.order.now.ram_pages) (Some file)) (Ok c.in-Ok-load_image.image))
     c.deref-2.ensures.value c.in-Ok-load_image.ensures.image)
-    c.in-Ok-read_script.script c.requires.plain
+    c.in-Ok-read_script.script
     (subst (λ (file : List ℕ). FindsScript (own_meant c.args.order.now) file
     (Ok c.in-Ok-read_script.script)
     (g.D.Desk.account c.read_front.new.self) (g.D.Desk.account c.read_script.new.desk))

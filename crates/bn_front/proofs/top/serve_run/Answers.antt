@@ -1,36 +1,32 @@
-use Rattle.std.proofs.Common.{Bool, refl, subst, sym}
-use Rattle.bn_front.specs.Built.{task_if}
+use Rattle.std.proofs.Common.{refl, sym}
 use Rattle.bn_front.specs.Headline.{outside}
 use Rattle.bn_front.specs.Meant.{own_meant}
-use Rattle.bn_front.specs.Story.{IsStory}
-use Rattle.bn_front.proofs.Serving.{inputs_story, refusal_story, unbuilt_story}
+use Rattle.bn_front.specs.Stored.{store_of}
+use Rattle.bn_front.proofs.Serving.{plain_story, refusal_story, stored_story}
 use Rattle.bn_front.proofs.top.serve_run.Goals as goal
 
 pub returns-then-order-clause-story : goal.returns-then-order-clause-story
 returns-then-order-clause-story g c =
-    let old = outside (g.D.Desk.account c.args.desk.now) (g.O.Sink.account c.args.out.now) in
-    let new = outside (g.D.Desk.account c.args.desk.now) (g.O.Sink.account c.say.new.out) in
-    subst (λ (b : Bool). IsStory c.say.result (task_if b (own_meant c.args.order.now)) old new)
-    (sym c.if-order.true)
-    (unbuilt_story c.say.result old new refl (c.say.ensures.spoken, c.say.ensures.answers))
+    stored_story (own_meant c.args.order.now) c.in-Ok.inputs
+    (outside (g.D.Desk.account c.args.desk.now) (g.V.Vault.account c.args.vault.now)
+    (g.C.Chip.account c.args.chip.now) (g.O.Sink.account c.args.out.now))
+    (outside (g.D.Desk.account c.read_inputs.new.desk)
+    (g.V.Vault.account c.serve_stored.new.vault) (g.C.Chip.account c.serve_stored.new.chip)
+    (g.O.Sink.account c.serve_stored.new.out))
+    c.in-Ok.ensures.reads c.if-order.true c.serve_stored.result c.serve_stored.ensures.runs
 
-pub returns-in-Ok-clause-story : goal.returns-in-Ok-clause-story
-returns-in-Ok-clause-story g c =
-    let old = outside (g.D.Desk.account c.args.desk.now) (g.O.Sink.account c.args.out.now) in
-    let new = outside (g.D.Desk.account c.read_inputs.new.desk)
-    (g.O.Sink.account c.serve_inputs.new.out) in
-    subst
-    (λ (b : Bool). IsStory c.serve_inputs.result (task_if b (own_meant c.args.order.now)) old new)
-    (sym c.if-order.false)
-    (inputs_story (own_meant c.args.order.now) old new c.in-Ok.inputs c.serve_inputs.result
-    c.in-Ok.ensures.reads c.serve_inputs.ensures.answers)
+pub returns-else-order-clause-story : goal.returns-else-order-clause-story
+returns-else-order-clause-story g c =
+    plain_story (own_meant c.args.order.now) c.in-Ok.inputs (g.D.Desk.account c.args.desk.now)
+    (g.D.Desk.account c.read_inputs.new.desk)
+    (store_of (g.V.Vault.account c.args.vault.now) (g.C.Chip.account c.args.chip.now))
+    (g.O.Sink.account c.args.out.now) (g.O.Sink.account c.serve_plain.new.out)
+    c.serve_plain.result c.if-order.false c.in-Ok.ensures.reads c.serve_plain.ensures.runs
 
 pub returns-in-Err-clause-story : goal.returns-in-Err-clause-story
 returns-in-Err-clause-story g c =
-    let old = outside (g.D.Desk.account c.args.desk.now) (g.O.Sink.account c.args.out.now) in
-    let new = outside (g.D.Desk.account c.read_inputs.new.desk)
-    (g.O.Sink.account c.refuse.new.out) in
-    subst (λ (b : Bool). IsStory c.refuse.result (task_if b (own_meant c.args.order.now)) old new)
-    (sym c.if-order.false)
-    (refusal_story (own_meant c.args.order.now) old new c.in-Err.refusal c.refuse.result
-    c.in-Err.ensures.reads c.refuse.ensures.answers)
+    refusal_story (g.D.Desk.account c.args.desk.now) (g.D.Desk.account c.read_inputs.new.desk)
+    (store_of (g.V.Vault.account c.args.vault.now) (g.C.Chip.account c.args.chip.now))
+    (g.O.Sink.account c.args.out.now) (g.O.Sink.account c.refuse.new.out)
+    (own_meant c.args.order.now) c.in-Err.refusal c.refuse.result c.in-Err.ensures.reads
+    c.refuse.ensures.answers
