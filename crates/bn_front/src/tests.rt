@@ -28,6 +28,7 @@ mod registers;
 mod roots;
 mod scripted_guest;
 mod scripts;
+mod sealed;
 mod secure_words;
 mod storing;
 mod stores;
