@@ -205,12 +205,12 @@ module _ (s m n : StoreAccount) (law : HasOnlyNow s.vault) (read : IsOnlyRead No
     closed = c.closed;
   }
 
-  pub runs_on : (run : Course) (status : Status) (old new : SinkAccount)
-      → RunsStored run status m n old new → RunsStored run status s n old new
-  runs_on run status old new (inl wants) = inl (wants.0, read_on None s m n read wants.1)
-  runs_on run status old new (inr (inl stops)) =
+  pub runs_on : (made : Course) (status : Status) (old new : SinkAccount)
+      → RunsStored made status m n old new → RunsStored made status s n old new
+  runs_on made status old new (inl wants) = inl (wants.0, read_on None s m n read wants.1)
+  runs_on made status old new (inr (inl stops)) =
       inr (inl (stops.0, read_on None s m n read stops.1))
-  runs_on run status old new (inr (inr ends)) = inr (inr (record {
+  runs_on made status old new (inr (inr ends)) = inr (inr (record {
     mid = ends.mid;
     lines = ends.lines;
     closes = closes_on _ _ status ends.mid new ends.closes;

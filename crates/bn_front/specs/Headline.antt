@@ -155,6 +155,13 @@ pub record WritesFrontOfDue (words : List (List ℕ)) (old new : Outside) : Type
   pub fails : FailsWithin due old.store new.store old.sink new.sink
   pub front : WritesFront old.sink new.sink (due_text due)
 
+-- the answer of a device comes exactly where its count of faults rose, as long as it could
+abbrev pub TellsVault : Status → StoreAccount → StoreAccount → Type 0
+TellsVault status old new = IsToldBy (status ≡ VaultFault) old.vault.faults new.vault.faults
+
+abbrev pub TellsChip : Status → StoreAccount → StoreAccount → Type 0
+TellsChip status old new = IsToldBy (status ≡ ChipFault) old.chip.faults new.chip.faults
+
 -- no count rose
 pub record CountsStay (old new : Outside) : Type 0 where
   pub missed : Stays old.desk.misses new.desk.misses
@@ -199,6 +206,13 @@ StandUnder storage records =
 abbrev pub OpensTo : (has_store : Bool) → Storage → List Record → Type 0
 OpensTo false storage records = records ≡ []
 OpensTo true storage records = StandUnder storage records
+
+-- so does the run of these words, whatever files and storage one supposes
+abbrev pub OpensUnderRegister : List (List ℕ) → Type 0
+OpensUnderRegister words =
+    (files : Files) (storage : Storage) (start : Start) →
+    start_of words files storage ≡ Some start →
+    OpensTo (uses_store words) storage start.state.records
 
 -- ---- what a run does
 
@@ -249,6 +263,35 @@ pub record WriteAlike (one other : Report) (start : Start) (blind : Blind) : Typ
       RestsAfterEach blind.blinded.0 blind.event start.state start.events →
       (one.status ≡ other.status) × (one.text ≡ other.text)
 
+-- ---- in the run of these words, whatever files and storage one supposes
+
+-- each event is so
+abbrev pub TouchesAdmitted : List (List ℕ) → Type 0
+TouchesAdmitted words =
+    (files : Files) (storage : Storage) (s : State) (event : Event) →
+    RunMakes words files storage s event → IsAdmitted s event
+
+-- and modules start so, where files and areas are texts of bytes
+abbrev pub StartsAllModules : List (List ℕ) → Type 0
+StartsAllModules words =
+    (files : Files) (storage : Storage) (s : State) (event : Event) →
+    HoldBytes files → StoreBytes storage → RunMakes words files storage s event →
+    StartsModules s event
+
+-- nothing is shown of a module's secrets while it rests
+abbrev pub HidesAtRest : List (List ℕ) → Type 0
+HidesAtRest words =
+    (files : Files) (storage : Storage) (start : Start) →
+    HoldBytes files → StoreBytes storage → start_of words files storage ≡ Some start →
+    HidesSecrets start.blind start.state start.events
+
+-- so other words that zero them, and order the same else, write alike
+abbrev pub WritesAlike : List (List ℕ) → Type 0
+WritesAlike words =
+    (files : Files) (storage : Storage) (start : Start) (others : List (List ℕ)) (blind : Blind) →
+    HoldBytes files → StoreBytes storage → AreBlinded words others files storage start blind →
+    WriteAlike (report_of words files storage) (report_of others files storage) start blind
+
 pub record Promise (words : List (List ℕ)) (status : Status) (old new : Outside) : Type 0 where
   -- where no count of faults rose, the flat machine's report is written, or memory ran out
   pub exact : AllWork words old new → status ≢ Memory → WritesReport words status old new
@@ -258,12 +301,8 @@ pub record Promise (words : List (List ℕ)) (status : Status) (old new : Outsid
   pub sink_fault : IsToldBy (status ≡ SinkFault) old.sink.faults new.sink.faults
   pub no_file : SinkWorks old new → IsToldBy (status ≡ NoFile) old.desk.misses new.desk.misses
   pub desk_fault : SinkWorks old new → IsToldBy (status ≡ DeskFault) old.desk.faults new.desk.faults
-  pub vault_fault :
-      SinkWorks old new →
-      IsToldBy (status ≡ VaultFault) old.store.vault.faults new.store.vault.faults
-  pub chip_fault :
-      SinkWorks old new →
-      IsToldBy (status ≡ ChipFault) old.store.chip.faults new.store.chip.faults
+  pub vault_fault : SinkWorks old new → TellsVault status old.store new.store
+  pub chip_fault : SinkWorks old new → TellsChip status old.store new.store
   -- what each of them leaves
   pub front : status ≡ SinkFault → WritesFrontOfDue words old new
   pub missing_line : status ≡ NoFile → WritesLine missing_line words old new
@@ -277,27 +316,13 @@ pub record Promise (words : List (List ℕ)) (status : Status) (old new : Outsid
   pub kept : IsBeforeRun status → StorageStays old.store new.store
   pub committed : uses_store words ≡ true → EndsRun status → CommitsRun words old new
   pub any_moment : CrashesOpenAlike old.store new.store
-  -- to which records a store opens
-  pub opened :
-      (files : Files) (storage : Storage) (start : Start) →
-      start_of words files storage ≡ Some start →
-      OpensTo (uses_store words) storage start.state.records
+  -- to which records its store opens
+  pub opened : OpensUnderRegister words
   -- who touches the guest's pages in a run, and which of them change
-  pub touched :
-      (files : Files) (storage : Storage) (s : State) (event : Event) →
-      RunMakes words files storage s event → IsAdmitted s event
+  pub touched : TouchesAdmitted words
   -- how modules start in it
-  pub started :
-      (files : Files) (storage : Storage) (s : State) (event : Event) →
-      HoldBytes files → StoreBytes storage → RunMakes words files storage s event →
-      StartsModules s event
+  pub started : StartsAllModules words
   -- that it shows nothing of a module's private pages and saved registers while the module rests
-  pub zeroed :
-      (files : Files) (storage : Storage) (start : Start) →
-      HoldBytes files → StoreBytes storage → start_of words files storage ≡ Some start →
-      HidesSecrets start.blind start.state start.events
+  pub zeroed : HidesAtRest words
   -- and so zeroing them changes nothing of what is written until the module runs
-  pub alike :
-      (files : Files) (storage : Storage) (start : Start) (others : List (List ℕ)) (blind : Blind) →
-      HoldBytes files → StoreBytes storage → AreBlinded words others files storage start blind →
-      WriteAlike (report_of words files storage) (report_of others files storage) start blind
+  pub alike : WritesAlike words
