@@ -6,33 +6,40 @@ import subprocess
 import tempfile
 import textwrap
 
-from interpreter import UNBUILT, Machine
+from interpreter import Machine
 
 HERE = pathlib.Path(__file__).resolve().parent
 TESTS = HERE.parent / "crates" / "bn_front" / "src" / "tests"
 PREFIX = "riscv64-unknown-elf-"
-# folders of guests that stand in one test module each: what the emulator lacks there, what they are,
-# and the test's name
+# folders of guests that stand in one test module each: what they are, and the test's name
 FOLDERS = {
     "launches": (
-        UNBUILT,
         "Guests that launch modules: what a module is known by, and each refusal in its order.",
         "modules_are_launched_or_refused"),
     "owned_pages": (
-        UNBUILT,
         "Guests that reach for the pages of modules, as programs and by their page tables.",
         "pages_of_modules_are_their_own"),
     "switches": (
-        UNBUILT,
         "Guests that call modules, whose modules call and return, are stopped, go on and are evicted.",
         "modules_are_called_stopped_resumed_and_evicted"),
+    "storing": (
+        "Guests whose modules keep words by their identities, without a store beside the machine.",
+        {"all_words": "a_module_keeps_32_words",
+         "full": "a_module_of_a_65th_identity_keeps_no_words",
+         "index_too_large": "a_word_that_is_not_there_is_not_stored",
+         "launched_again": "a_module_that_is_launched_again_has_its_words",
+         "outside": "code_outside_the_modules_keeps_no_words",
+         "registers": "words_go_by_any_registers",
+         "stopped": "a_module_that_is_stopped_stores_when_it_goes_on",
+         "two_modules": "modules_do_not_reach_the_words_of_others",
+         "user_mode": "a_module_of_mode_u_keeps_words"}),
     "zeroing": (
-        UNBUILT,
         "Guests one of whose modules is zeroed before an event: while it rests nobody can tell.",
         # a test for each guest, since each has many runs
         {"evicted": "a_zeroed_module_is_evicted_as_others_are",
          "idle": "a_module_is_zeroed_between_its_calls",
          "limit": "zeroing_beside_the_limit_is_not_told",
+         "kept_words": "a_zeroed_module_keeps_its_words",
          "offered": "shared_pages_are_not_zeroed",
          "own_root": "a_zeroed_page_is_no_root",
          "own_tables": "a_zeroed_page_is_no_table",
@@ -40,7 +47,6 @@ FOLDERS = {
          "waiting": "a_waiting_module_is_zeroed",
          "wrong_resumption": "a_zeroed_module_keeps_its_pc_and_mode"}),
     "harts": (
-        UNBUILT,
         "Guests of several harts, with devices, each run by a script.",
         {"devices": "devices_reach_the_pages_that_nobody_owns",
          "four_harts": "four_harts_take_turns",
@@ -50,6 +56,7 @@ FOLDERS = {
          "resumed_elsewhere": "any_hart_resumes_a_module",
          "resumed_once": "of_two_harts_at_a_stopped_module_one_resumes_it",
          "starts": "a_hart_is_started_as_at_boot",
+         "stored_elsewhere": "words_are_those_of_the_module_on_any_hart",
          "two_modules": "a_module_that_runs_elsewhere_is_busy"}),
 }
 # as many events as a guest of a folder may have
@@ -164,14 +171,10 @@ def module(name):
     words, tables = parts(image)
     texts = listed(image[:4 * len(words)])
     lines = Machine(image, ram).run()
-    is_built = lines[-1] != "unbuilt"
-    uses = (["bytes_of_code", "expect_image", "push_pairs"] if tables else
-            ["expect_code"] if is_built else ["bytes_of_code", "run_image"])
+    uses = ["bytes_of_code", "expect_image", "push_pairs"] if tables else ["expect_code"]
     made = "Made by `tests/make` from its assembly; the trace is that of `tests/interpreter.py`."
     out = comment("//!", about + made) + [""]
     out += [f"use super::{{{', '.join(uses)}}};" if len(uses) > 1 else f"use super::{uses[0]};"]
-    if not is_built:
-        out += ["use bn_types::Status;"]
     out += ["", f"const CODE: [u32; {len(words)}] = ["]
     out += [f"    0x{word:08x}, // {text}" for word, text in zip(words, texts)] + ["];", ""]
     if tables:
@@ -183,12 +186,8 @@ def module(name):
         out += ['    let mut image = bytes_of_code(rt.alloc(), &CODE).expect(&rt, "memory");',
                 '    push_pairs(&mut image, &TABLES).expect(&rt, "memory");',
                 f"    expect_image(&rt, rt.alloc(), {ram}, &image, &LINES);"]
-    elif is_built:
-        out += [f"    expect_code(&rt, rt.alloc(), {ram}, &CODE, &LINES);"]
     else:
-        out += ['    let image = bytes_of_code(rt.alloc(), &CODE).expect(&rt, "memory");',
-                f"    let status = run_image(&rt, rt.alloc(), {ram}, 100_000, &image, &LINES);",
-                "    assert_eq!(rt; status, Status::Unbuilt);"]
+        out += [f"    expect_code(&rt, rt.alloc(), {ram}, &CODE, &LINES);"]
     return "\n".join(out + ["}", ""])
 
 
@@ -276,16 +275,15 @@ def zeroed_listing(name, image, lines, runs):
 
 
 def trace(name, image, zeroed=None):
-    folder = name.split("/")[0]
     blind = zeroed and (zeroed.module, zeroed.event)
-    machine = Machine(image, settings(name)[1], FOLDERS[folder][0], harts(name))
+    machine = Machine(image, settings(name)[1], harts(name))
     return machine.run(steps(name), blind, "\n".join(script(name)))
 
 
 def folder_module(folder):
     """The test module of a folder of guests."""
     found = [listing(name) for name in names(folder)]
-    _, about, test = FOLDERS[folder]
+    about, test = FOLDERS[folder]
     out = [f"//! {about}",
            "//! Made by `tests/make` from their assembly; the traces are those of `tests/interpreter.py`.",
            ""]
@@ -303,14 +301,23 @@ def folder_module(folder):
 
 def tests_of_their_own(folder, found, tests):
     """The guests of a folder, and a test for each."""
-    is_scripted = script(names(folder)[0])
-    uses = (["scripted_guest::{NO_RUNS, ScriptedGuest, expect_scripted_guest}",
-             "zeroed_guest::{NO_LINES, Zeroed}"] if is_scripted else
-            ["zeroed_guest::{NO_LINES, Zeroed, ZeroedGuest, expect_zeroed_guest}"])
-    expect = "expect_scripted_guest" if is_scripted else "expect_zeroed_guest"
-    out = ["use super::guest::Guest;"] + [f"use super::{use};" for use in uses] + [""]
+    first = names(folder)[0]
+    if script(first):
+        uses = ["guest::Guest", "scripted_guest::{NO_RUNS, ScriptedGuest, expect_scripted_guest}",
+                "zeroed_guest::{NO_LINES, Zeroed}"]
+        expect = "expect_scripted_guest"
+    elif zeroings(first):
+        uses = ["guest::Guest",
+                "zeroed_guest::{NO_LINES, Zeroed, ZeroedGuest, expect_zeroed_guest}"]
+        expect = "expect_zeroed_guest"
+    else:
+        uses, expect = ["guest::{Guest, expect_guest}"], "expect_guest"
+    out = [f"use super::{use};" for use in uses] + [""]
     for name, (arrays, entry) in zip(names(folder), found):
         stem = name.split("/")[1]
+        if entry[0].startswith(" "):
+            # it stands in no larger one, and in no table
+            entry = [f"const {stem.upper()}: Guest<'static> = Guest {{", *entry[1:-1], "};", ""]
         out += arrays + entry
         out += ["#[test]", f"fn {tests[stem]}(rt: HostRuntime) {{",
                 f"    {expect}(&rt, rt.alloc(), &{stem.upper()});", "}", ""]

@@ -9,7 +9,6 @@ NOT_SUPPORTED, INVALID, BAD_ADDRESS, STARTED = -2, -3, -5, -6
 
 
 def set_timer(machine, hart):
-    machine.needs("timer")
     hart.timer, hart.x[A0] = hart.x[A0], 0
 
 
@@ -19,7 +18,6 @@ def putchar(machine, hart):
 
 
 def getchar(machine, hart):
-    machine.needs("getchar")
     hart.x[A0] = machine.keys.pop(0) if machine.keys else MASK
 
 
@@ -28,7 +26,6 @@ def shutdown(machine, hart):
 
 
 def hart_start(machine, hart):
-    machine.needs("hart_start")
     target, pc, opaque = hart.x[10], hart.x[11], hart.x[12]
     if target >= len(machine.harts):
         return INVALID
@@ -42,7 +39,6 @@ def hart_start(machine, hart):
 
 
 def send_ipi(machine, hart):
-    machine.needs("send_ipi")
     mask, base = hart.x[10], hart.x[11]
     count = len(machine.harts)
     targets = (range(count) if base == MASK else

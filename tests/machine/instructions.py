@@ -189,7 +189,6 @@ def secure(machine, hart, fields):
     name = secure_name(fields)
     if name is None or not is_legal(hart, name):
         raise Trap(ILLEGAL)
-    machine.needs(name)
     try:
         value, following = request(
             machine, hart, name, fields.rd, hart.x[fields.rs1], hart.x[fields.rs2])

@@ -14,8 +14,6 @@ def kind_of(cause):
 def trap(machine, hart, cause, value, denied=None):
     """Takes a trap; a module is stopped first, and then only the page of an address is told."""
     pc = hart.pc
-    if hart.module != 0:
-        machine.needs("stop")
     if denied is not None:
         memory.say_denied(machine, hart, kind_of(cause), value)
     if hart.module != 0:

@@ -1,7 +1,7 @@
 """Harts, rows of live modules, and the machine that has them."""
 
 from . import csrs
-from .values import MASK, PAGE, RAM, SUPERVISOR, USER, Unbuilt
+from .values import MASK, PAGE, RAM, SUPERVISOR, USER
 
 IDLE, RUNNING, WAITING, STOPPED = "idle", "running", "waiting", "stopped"
 PRIVATE, OFFER, ACCEPT = 1, 2, 3
@@ -67,9 +67,9 @@ class Row:
 
 
 class Machine:
-    """Its `lines` are the trace so far; `unbuilt` names the parts that are left out."""
+    """Its `lines` are the trace so far."""
 
-    def __init__(self, ram, entry=RAM, harts=1, records=None, unbuilt=()):
+    def __init__(self, ram, entry=RAM, harts=1, records=None):
         self.ram = bytearray(ram)
         self.pages = len(ram) // PAGE
         self.harts = [Hart(number) for number in range(harts)]
@@ -78,15 +78,10 @@ class Machine:
         self.rows = []
         self.records = records if records is not None else {}
         self.clock, self.next_id, self.keys, self.is_off = 0, 1, [], False
-        self.unbuilt = unbuilt
         self.lines = []
 
     def row(self, number):
         return next((row for row in self.rows if row.number == number), None)
-
-    def needs(self, part):
-        if part in self.unbuilt:
-            raise Unbuilt(part)
 
     def say(self, text, *fields):
         """A line of the trace: its word, the event's number, and the fields."""

@@ -30,10 +30,6 @@ class Refused(Exception):
         self.code = code
 
 
-class Unbuilt(Exception):
-    """The run comes to a part that is left out."""
-
-
 def signed(value, bits=64):
     value &= (1 << bits) - 1
     return value - (1 << bits) if value >> bits - 1 else value

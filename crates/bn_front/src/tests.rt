@@ -30,6 +30,7 @@ mod scripted_guest;
 mod scripts;
 mod secure_words;
 mod stores;
+mod storing;
 mod superpages;
 mod switches;
 mod top;

@@ -1399,6 +1399,137 @@ fn a_hart_is_started_as_at_boot(rt: HostRuntime) {
     expect_scripted_guest(&rt, rt.alloc(), &STARTS);
 }
 
+// A module stores a word on one hart. On another it reads that and stores a second, is evicted and
+// launched again, and on the first it reads both.
+const STORED_ELSEWHERE_CODE: [u32; 74] = [
+    0x00000f97, // auipc x31,0x0
+    0x114f8f93, // addi x31,x31,276
+    0x105f9073, // csrrw x0,stvec,x31
+    0x00100513, // addi x10,x0,1
+    0x00000597, // auipc x11,0x0
+    0x08458593, // addi x11,x11,132
+    0x00000613, // addi x12,x0,0
+    0x004858b7, // lui x17,0x485
+    0x34d88893, // addi x17,x17,845
+    0x00000813, // addi x16,x0,0
+    0x00000073, // ecall
+    0x00010997, // auipc x19,0x10
+    0xfd498993, // addi x19,x19,-44
+    0x00008397, // auipc x7,0x8
+    0xfcc38393, // addi x7,x7,-52
+    0x0003890b, // b.launch x18,x7
+    0x00000513, // addi x10,x0,0
+    0x00b00593, // addi x11,x0,11
+    0x00000613, // addi x12,x0,0
+    0x0139128b, // b.call x5,x18,x19
+    0x0c029263, // bne x5,x0,0x80000114
+    0x00000f93, // addi x31,x0,0
+    0x0bf51e63, // bne x10,x31,0x80000114
+    0x00200913, // addi x18,x0,2
+    0x00000513, // addi x10,x0,0
+    0x00100613, // addi x12,x0,1
+    0x0139128b, // b.call x5,x18,x19
+    0x0a029463, // bne x5,x0,0x80000114
+    0x00b00f93, // addi x31,x0,11
+    0x0bf51063, // bne x10,x31,0x80000114
+    0x01f00513, // addi x10,x0,31
+    0x00100613, // addi x12,x0,1
+    0x0139128b, // b.call x5,x18,x19
+    0x08029863, // bne x5,x0,0x80000114
+    0x00c00f93, // addi x31,x0,12
+    0x09f51463, // bne x10,x31,0x80000114
+    0x0900006f, // jal x0,0x80000120
+    0x00000f97, // auipc x31,0x0
+    0x080f8f93, // addi x31,x31,128
+    0x105f9073, // csrrw x0,stvec,x31
+    0x00010997, // auipc x19,0x10
+    0xf6098993, // addi x19,x19,-160
+    0x00008397, // auipc x7,0x8
+    0xf5838393, // addi x7,x7,-168
+    0x00100913, // addi x18,x0,1
+    0x00000513, // addi x10,x0,0
+    0x00100613, // addi x12,x0,1
+    0x0139128b, // b.call x5,x18,x19
+    0x04029a63, // bne x5,x0,0x80000114
+    0x00b00f93, // addi x31,x0,11
+    0x05f51663, // bne x10,x31,0x80000114
+    0x01f00513, // addi x10,x0,31
+    0x00c00593, // addi x11,x0,12
+    0x00000613, // addi x12,x0,0
+    0x0139128b, // b.call x5,x18,x19
+    0x02029c63, // bne x5,x0,0x80000114
+    0x00000f93, // addi x31,x0,0
+    0x03f51863, // bne x10,x31,0x80000114
+    0x0009328b, // b.evict x5,x18
+    0x00000417, // auipc x8,0x0
+    0x31440413, // addi x8,x8,788
+    0x00043a03, // ld x20,0(x8)
+    0x00843a83, // ld x21,8(x8)
+    0x01043b03, // ld x22,16(x8)
+    0x0149b023, // sd x20,0(x19)
+    0x0159b423, // sd x21,8(x19)
+    0x0169b823, // sd x22,16(x19)
+    0x0003890b, // b.launch x18,x7
+    0x0000006f, // jal x0,0x80000110
+    0x02100513, // addi x10,x0,33
+    0x00100893, // addi x17,x0,1
+    0x00000073, // ecall
+    0x00800893, // addi x17,x0,8
+    0x00000073, // ecall
+];
+
+const STORED_ELSEWHERE_TABLES: [(usize, u64); 10] = [
+    (1024, 0x2b5050b00061663),
+    (1032, 0x5750b0000200b),
+    (1040, 0x200b),
+    (32768, 0x101010147534e42),
+    (32784, 0x80010000),
+    (32848, 0x80010),
+    (32856, 0x501),
+    (65536, 0x2b5050b00061663),
+    (65544, 0x5750b0000200b),
+    (65552, 0x200b),
+];
+
+const STORED_ELSEWHERE_LINES: [&str; 17] = [
+    "start 10 0 1 0000000080000094\n",
+    "launch 15 0 1 ff68d5e6e69dbded7d018bf67d4950f7ddb928499560d4b38d531fc319ae8ccd\n",
+    "call 19 0 0 1 0000000080010000\n",
+    "sset 21 0 1 0\n",
+    "ret 22 0 1 0 0000000080000050\n",
+    "call 33 1 0 1 0000000080010000\n",
+    "ret 36 1 1 0 00000000800000c0\n",
+    "call 43 1 0 1 0000000080010000\n",
+    "sset 45 1 1 31\n",
+    "ret 46 1 1 0 00000000800000dc\n",
+    "evict 50 1 1 1\n",
+    "launch 59 1 2 ff68d5e6e69dbded7d018bf67d4950f7ddb928499560d4b38d531fc319ae8ccd\n",
+    "call 74 0 0 2 0000000080010000\n",
+    "ret 80 0 2 0 000000008000006c\n",
+    "call 92 0 0 2 0000000080010000\n",
+    "ret 98 0 2 0 0000000080000084\n",
+    "end 111 shutdown e325f7ac002ca646c969328f8710203f488a7c1bc8b4acefbd423db25dc5e0fb\n",
+];
+
+const STORED_ELSEWHERE_SCRIPT: [&str; 2] = ["turn 0 23\n", "turn 1 39\n"];
+
+const STORED_ELSEWHERE: ScriptedGuest<'static> = ScriptedGuest {
+    guest: Guest {
+        code: &STORED_ELSEWHERE_CODE,
+        tables: &STORED_ELSEWHERE_TABLES,
+        steps: 60_000,
+        lines: &STORED_ELSEWHERE_LINES,
+    },
+    harts: "2",
+    script: &STORED_ELSEWHERE_SCRIPT,
+    runs: &NO_RUNS,
+};
+
+#[test]
+fn words_are_those_of_the_module_on_any_hart(rt: HostRuntime) {
+    expect_scripted_guest(&rt, rt.alloc(), &STORED_ELSEWHERE);
+}
+
 // A module runs on one hart: on another it can't be called, evicted or launched again, and its
 // pages are denied. A second module runs there at the same time, and to each the other's page is
 // denied.

@@ -254,6 +254,103 @@ fn a_module_is_zeroed_between_its_calls(rt: HostRuntime) {
     expect_zeroed_guest(&rt, rt.alloc(), &IDLE);
 }
 
+// A module's words are no secrets of its: zeroed while it is idle, or not, it is evicted and
+// launched again, and reads what it stored.
+const KEPT_WORDS_CODE: [u32; 39] = [
+    0x00000f97, // auipc x31,0x0
+    0x088f8f93, // addi x31,x31,136
+    0x105f9073, // csrrw x0,stvec,x31
+    0x00008397, // auipc x7,0x8
+    0xff438393, // addi x7,x7,-12
+    0x0003890b, // b.launch x18,x7
+    0x00010997, // auipc x19,0x10
+    0xfe898993, // addi x19,x19,-24
+    0x00500513, // addi x10,x0,5
+    0x03200593, // addi x11,x0,50
+    0x00000613, // addi x12,x0,0
+    0x0139128b, // b.call x5,x18,x19
+    0x04029c63, // bne x5,x0,0x80000088
+    0x00000f93, // addi x31,x0,0
+    0x05f51863, // bne x10,x31,0x80000088
+    0x0009328b, // b.evict x5,x18
+    0x00000417, // auipc x8,0x0
+    0x3c040413, // addi x8,x8,960
+    0x00043a03, // ld x20,0(x8)
+    0x00843a83, // ld x21,8(x8)
+    0x01043b03, // ld x22,16(x8)
+    0x0149b023, // sd x20,0(x19)
+    0x0159b423, // sd x21,8(x19)
+    0x0169b823, // sd x22,16(x19)
+    0x0003890b, // b.launch x18,x7
+    0x00200f93, // addi x31,x0,2
+    0x03f91063, // bne x18,x31,0x80000088
+    0x00500513, // addi x10,x0,5
+    0x00100613, // addi x12,x0,1
+    0x0139128b, // b.call x5,x18,x19
+    0x00029863, // bne x5,x0,0x80000088
+    0x03200f93, // addi x31,x0,50
+    0x01f51463, // bne x10,x31,0x80000088
+    0x0100006f, // jal x0,0x80000094
+    0x02100513, // addi x10,x0,33
+    0x00100893, // addi x17,x0,1
+    0x00000073, // ecall
+    0x00800893, // addi x17,x0,8
+    0x00000073, // ecall
+];
+
+const KEPT_WORDS_TABLES: [(usize, u64); 10] = [
+    (1024, 0x2b5050b00061663),
+    (1032, 0x5750b0000200b),
+    (1040, 0x200b),
+    (32768, 0x101010147534e42),
+    (32784, 0x80010000),
+    (32848, 0x80010),
+    (32856, 0x501),
+    (65536, 0x2b5050b00061663),
+    (65544, 0x5750b0000200b),
+    (65552, 0x200b),
+];
+
+const KEPT_WORDS_LINES: [&str; 9] = [
+    "launch 5 0 1 ff68d5e6e69dbded7d018bf67d4950f7ddb928499560d4b38d531fc319ae8ccd\n",
+    "call 11 0 0 1 0000000080010000\n",
+    "sset 13 0 1 5\n",
+    "ret 14 0 1 0 0000000080000030\n",
+    "evict 18 0 1 1\n",
+    "launch 27 0 2 ff68d5e6e69dbded7d018bf67d4950f7ddb928499560d4b38d531fc319ae8ccd\n",
+    "call 32 0 0 2 0000000080010000\n",
+    "ret 35 0 2 0 0000000080000078\n",
+    "end 42 shutdown cfaa3cc8b91e94f629cf7becc75f1edc3aab295756db762f34f6aa106e8416af\n",
+];
+
+const KEPT_WORDS_RUNS: [Zeroed<'static>; 2] = [
+    Zeroed {
+        place: "1@15",
+        kept: 9,
+        rest: &NO_LINES,
+    },
+    Zeroed {
+        place: "1@18",
+        kept: 9,
+        rest: &NO_LINES,
+    },
+];
+
+const KEPT_WORDS: ZeroedGuest<'static> = ZeroedGuest {
+    guest: Guest {
+        code: &KEPT_WORDS_CODE,
+        tables: &KEPT_WORDS_TABLES,
+        steps: 60_000,
+        lines: &KEPT_WORDS_LINES,
+    },
+    runs: &KEPT_WORDS_RUNS,
+};
+
+#[test]
+fn a_zeroed_module_keeps_its_words(rt: HostRuntime) {
+    expect_zeroed_guest(&rt, rt.alloc(), &KEPT_WORDS);
+}
+
 // A run that ends at its limit, with a stopped module: it is zeroed before the last event, or not,
 // since there is no such event. One can't tell.
 const LIMIT_CODE: [u32; 25] = [
