@@ -12,6 +12,7 @@ mod command_lines;
 mod counters;
 mod elf;
 mod execution;
+mod generated;
 mod gigapages;
 mod guest;
 mod harts;
