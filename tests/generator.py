@@ -32,6 +32,12 @@ def check_generated(path, report):
     report('summary of 1', '\n'.join(constants['SUMMARY']) + '\n', made)
 
 
+def check_summary(path, report):
+    """Runs number 1, and compares the summary."""
+    _, made = generator.summary(1)
+    report('summary of 1', ''.join(values(path)['SUMMARY']), made)
+
+
 def main():
     words = sys.argv[1:]
     if len(words) not in (1, 3) or not words[0].isdecimal() or int(words[0]) >> 64:

@@ -1,5 +1,6 @@
 """Guests in assembly, assembled by GNU as, and the test modules that are made of them."""
 import collections
+import hashlib
 import pathlib
 import re
 import subprocess
@@ -11,6 +12,8 @@ from interpreter import Machine
 HERE = pathlib.Path(__file__).resolve().parent
 TESTS = HERE.parent / "crates" / "bn_front" / "src" / "tests"
 PREFIX = "riscv64-unknown-elf-"
+# a trace of more lines than this is compared by its digest, since the prover reads it slowly
+LONG = 200
 # folders of guests that stand in one test module each: what they are, and the test's name
 FOLDERS = {
     "launches": (
@@ -236,6 +239,8 @@ def listing(name):
     out += ["];", ""]
     out += [f"const {prefix}_TABLES: [(usize, u64); {len(tables)}] = ["]
     out += [f"    ({at}, 0x{number:x})," for at, number in tables] + ["];", ""]
+    if len(lines) > LONG:
+        return out + digest_listing(prefix, lines), None
     out += [f"const {prefix}_LINES: [&str; {len(lines)}] = ["]
     out += [f'    "{line}\\n",' for line in lines] + ["];", ""]
     entry = ["    Guest {", f"        code: &{prefix}_CODE,", f"        tables: &{prefix}_TABLES,",
@@ -252,6 +257,13 @@ def listing(name):
     elif runs:
         entry = wrapped("ZeroedGuest", prefix, entry, [f"    runs: &{prefix}_RUNS,"])
     return out, entry
+
+
+def digest_listing(prefix, lines):
+    """The SHA-256 digest of a trace that is long."""
+    digest = hashlib.sha256("".join(line + "\n" for line in lines).encode()).digest()
+    out = [f"/// The digest of its trace, of {len(lines)} lines.", f"const {prefix}_DIGEST: [u8; 32] = ["]
+    return out + ["    " + ", ".join(f"0x{byte:02x}" for byte in digest[at:at + 16]) + "," for at in (0, 16)] + ["];", ""]
 
 
 def wrapped(kind, prefix, entry, fields):
@@ -311,13 +323,19 @@ def tests_of_their_own(folder, found, tests):
                 "zeroed_guest::{NO_LINES, Zeroed, ZeroedGuest, expect_zeroed_guest}"]
         expect = "expect_zeroed_guest"
     else:
-        uses, expect = ["guest::{Guest, expect_guest}"], "expect_guest"
+        uses, expect = ["guest::{Guest, expect_digest, expect_guest}"], "expect_guest"
     out = [f"use super::{use};" for use in uses] + [""]
     for name, (arrays, entry) in zip(names(folder), found):
         stem = name.split("/")[1]
-        if entry[0].startswith(" "):
+        if entry and entry[0].startswith(" "):
             # it stands in no larger one, and in no table
             entry = [f"const {stem.upper()}: Guest<'static> = Guest {{", *entry[1:-1], "};", ""]
+        if entry is None:
+            prefix = stem.upper()
+            out += arrays + ["#[test]", f"fn {tests[stem]}(rt: HostRuntime) {{",
+                             f"    let (code, tables) = (&{prefix}_CODE, &{prefix}_TABLES);",
+                             f"    expect_digest(&rt, rt.alloc(), code, tables, &{prefix}_DIGEST);", "}", ""]
+            continue
         out += arrays + entry
         out += ["#[test]", f"fn {tests[stem]}(rt: HostRuntime) {{",
                 f"    {expect}(&rt, rt.alloc(), &{stem.upper()});", "}", ""]

@@ -1,5 +1,5 @@
 -- How courses end of which every event is built.
-use Rattle.std.proofs.Common.{◌≡◌, ◌≢◌, Bool, true, false, List, [], ◌∷◌, Option, refl, sym, ap}
+use Rattle.std.proofs.Common.{◌≡◌, ◌≢◌, ℕ, Bool, true, false, List, [], ◌∷◌, Option, refl, sym, ap}
 use Rattle.std.proofs.Common.{subst}
 use Rattle.std.proofs.Common.{◌∙◌}
 use Rattle.bn_types.specs.declared.ending.Ending.{Ending}
@@ -7,6 +7,8 @@ use Rattle.bn_types.specs.declared.ending.Ending.TheVariants as ending
 use Rattle.bn_types.specs.declared.event.Event.{Event}
 use Rattle.bn_types.specs.declared.finish.Finish.{Finish}
 use Rattle.bn_types.specs.declared.finish.Finish.TheVariants as finish
+use Rattle.bn_types.specs.declared.status.Status.{Status}
+use Rattle.bn_types.specs.declared.status.Status.TheVariants as answer
 use Rattle.bn_model.specs.Reporting.{Report, closing, end_line}
 use Rattle.bn_model.specs.Running.{Blind, Course, course, state_before}
 use Rattle.bn_model.specs.State.{State}
@@ -15,7 +17,7 @@ use Rattle.bn_model.specs.WholeReports.{finish_status}
 use Rattle.bn_model.specs.WholeRuns.{always, finish_if, finish_of}
 use Rattle.bn_model.proofs.RunningLemmas.{course_built, course_none, course_off}
 use Rattle.bn_front.specs.Built.{status_meant}
-use Rattle.bn_front.specs.Due.{ended}
+use Rattle.bn_front.specs.Due.{ended, generated, generated_run}
 
 abbrev ending_at : Finish → Ending
 ending_at finish.Shutdown = ending.Shutdown
@@ -75,3 +77,18 @@ never-unbuilt blind s events e =
     by_finish : (f : Finish) → ending_at f ≢ ending.Unbuilt
     by_finish finish.Shutdown = λ is. cc
     by_finish finish.Limit = λ is. cc
+
+-- ---- their statuses
+
+-- a run's end line has one of two
+pub ended_by : (run : Course) (P : Status → Type 0) → P answer.Ended → P answer.Limit
+    → P (ended run).status
+ended_by run P one other = by_finish (finish_of run) where
+  by_finish : (f : Finish) → P (status_meant (finish_status f))
+  by_finish finish.Shutdown = one
+  by_finish finish.Limit = other
+
+-- a summary has one of them too
+pub generated_by : (number : ℕ) (P : Status → Type 0) → P answer.Ended → P answer.Limit
+    → P (generated number).status
+generated_by number P one other = ended_by (generated_run number) P one other

@@ -2,6 +2,7 @@ pub mod Beginnings
 pub mod Commits
 pub mod Courses
 pub mod FormLemmas
+pub mod GeneratedRuns
 pub mod ImageLemmas
 pub mod ItemLemmas
 pub mod Missing

@@ -38,7 +38,7 @@ use Rattle.bn_model.proofs.SoundKept.{sound-kept}
 use Rattle.bn_model.proofs.SoundOpening.{opening-sound}
 use Rattle.bn_model.proofs.UnseenLemmas.{unseen}
 use Rattle.bn_model.proofs.ZeroingLemmas.{hides-in-run}
-use Rattle.bn_front.specs.Built.{NoTask, Report, Running, Task, Unbuilt, has_store, report_of}
+use Rattle.bn_front.specs.Built.{Generating, NoTask, Report, Running, Task, has_store, report_of}
 use Rattle.bn_front.specs.Built.{report_of_task, task_of, told_as, uses_store}
 use Rattle.bn_front.specs.Due.{ended}
 use Rattle.bn_front.specs.Headline.{AreBlinded, OpensTo, StandUnder, WriteAlike}
@@ -234,7 +234,7 @@ run_of_words words files storage start e = by_task (task_of words) refl e where
   by_task : (task : Task) → task_of words ≡ task → start_of_task task files storage ≡ Some start
       → IsRun words files storage start
   by_task NoTask is said = absurd cc
-  by_task Unbuilt is said = absurd cc
+  by_task (Generating number) is said = absurd cc
   by_task (Running order) is said = record {
     order = order;
     runs = is;

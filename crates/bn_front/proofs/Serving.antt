@@ -27,12 +27,13 @@ use Rattle.bn_front.specs.declared.refusal.Refusal.TheVariants as refusal
 use Rattle.bn_front.specs.declared.run_order.RunOrder as run_order
 use Rattle.bn_front.specs.declared.words_error.WordsError.{WordsError}
 use Rattle.bn_front.specs.declared.words_error.WordsError.TheVariants as error
-use Rattle.bn_front.specs.Built.{NoTask, Running, Task, Unbuilt, status_meant, task_by, task_of}
+use Rattle.bn_front.specs.Built.{Generating, NoTask, Running, Task, status_meant, task_by, task_of}
 use Rattle.bn_front.specs.Due.{AreAccepted, Begins, Device, Due, IsDue, OfCommit, OfDesk, OfFiles}
 use Rattle.bn_front.specs.Due.{OfOpening}
-use Rattle.bn_front.specs.Due.{OfRun, OfStore, OpensStore, Refuses, TheChip, TheVault, bad_store}
+use Rattle.bn_front.specs.Due.{OfRun, OfStore, OpensStore, StandsAlone, TheChip, TheVault}
+use Rattle.bn_front.specs.Due.{bad_store}
 use Rattle.bn_front.specs.Due.{desk_failed, due_text, ended, finished, missing_line, no_command}
-use Rattle.bn_front.specs.Due.{no_part, only, unfinished, unread, unwritten}
+use Rattle.bn_front.specs.Due.{generated, only, unfinished, unread, unwritten}
 use Rattle.bn_front.specs.Headline.{CountsStay, Outside}
 use Rattle.bn_front.specs.Meant as meant
 use Rattle.bn_front.specs.Meant.{blind_meant, order_meant, own_meant}
@@ -41,9 +42,10 @@ use Rattle.bn_front.specs.Stored.{IsLeft, IsSeen, Leaves, StorageStays, StoreAcc
 use Rattle.bn_front.specs.Story.{Answers, AnswersDue, AnswersRefusal, AnswersReport, AnswersWords}
 use Rattle.bn_front.specs.Story.{Counts, CountsChipFault, CountsDeskFault, CountsDevice, CountsMiss}
 use Rattle.bn_front.specs.Story.{CountsVaultFault, IsOnlyRead, IsOpened, IsStory, LacksMemory}
-use Rattle.bn_front.specs.Story.{OpensAndRuns, RunsPlainly, RunsStored, WantsMemory, act_of}
-use Rattle.bn_front.specs.Story.{last_of}
+use Rattle.bn_front.specs.Story.{OpensAndRuns, RunsGenerated, RunsPlainly, RunsStored, WantsMemory}
+use Rattle.bn_front.specs.Story.{act_of, last_of}
 use Rattle.bn_front.proofs.Beginnings.{parts_read, run_refused}
+use Rattle.bn_front.proofs.Courses.{generated_by}
 use Rattle.bn_front.proofs.Moments.{unchanged}
 use Rattle.bn_front.proofs.Readings.{seen_told}
 
@@ -145,17 +147,17 @@ module _ (desk later : DeskAccount) (store : StoreAccount) (sink end : SinkAccou
 
   -- a line that the files don't change
   files_story : (task : Task) (status : Status) (last : Report)
-      → ((files : Files) → Refuses task files last) → last.status ≢ answer.NoFile
+      → ((files : Files) → StandsAlone task files last) → last.status ≢ answer.NoFile
       → last.status ≢ answer.DeskFault → last.status ≢ answer.VaultFault
       → last.status ≢ answer.ChipFault → later ≡ desk
       → AnswersReport last status sink end → IsStory status task before after
-  files_story task status last refuses file fault vault chip same a =
+  files_story task status last alone file fault vault chip same a =
       line_story task before after status last
       (OfFiles (record {
         files = files_seen desk.files [] None None;
         agrees = seen_told desk.files [] None None;
         last = last;
-        refuses = refuses (files_seen desk.files [] None None);
+        alone = alone (files_seen desk.files [] None None);
         is = refl;
       }))
       (plain_counts last.status (miss_by last.status file) (fault_by last.status fault) vault chip)
@@ -177,11 +179,19 @@ module _ (desk later : DeskAccount) (store : StoreAccount) (sink end : SinkAccou
       (record { missed = missed; desk = quiet; vault = λ can. refl; chip = λ can. refl })
       (unchanged store) wants
 
-  pub unbuilt_story : (status : Status) → later ≡ desk → AnswersReport no_part status sink end
-      → IsStory status Unbuilt before after
-  unbuilt_story status same a =
-      files_story Unbuilt status no_part (λ files. refl) (λ e. cc) (λ e. cc) (λ e. cc) (λ e. cc)
-      same a
+  -- ---- a generated run
+
+  pub generated_story : (number : ℕ) (status : Status) → later ≡ desk
+      → RunsGenerated number status sink end → IsStory status (Generating number) before after
+  generated_story number status same (inl wants) =
+      no_memory (Generating number) status (λ can. ap (λ (d : DeskAccount). d.misses) same)
+      (λ can. ap (λ (d : DeskAccount). d.faults) same) wants
+  generated_story number status same (inr a) =
+      files_story (Generating number) status (generated number) (λ files. refl)
+      (generated_by number (λ s. s ≢ answer.NoFile) (λ e. cc) (λ e. cc))
+      (generated_by number (λ s. s ≢ answer.DeskFault) (λ e. cc) (λ e. cc))
+      (generated_by number (λ s. s ≢ answer.VaultFault) (λ e. cc) (λ e. cc))
+      (generated_by number (λ s. s ≢ answer.ChipFault) (λ e. cc) (λ e. cc)) same a
 
   -- ---- words
 
@@ -209,7 +219,7 @@ module _ (desk later : DeskAccount) (store : StoreAccount) (sink end : SinkAccou
           files = reads.files;
           agrees = reads.agrees;
           last = _;
-          refuses = record {
+          alone = record {
             why = _;
             refused = λ storage. run_refused order reads.files storage _ reads.gives;
             is = refl;
@@ -243,7 +253,7 @@ module _ (desk later : DeskAccount) (store : StoreAccount) (sink end : SinkAccou
           files = reads.files;
           agrees = reads.agrees;
           last = _;
-          refuses = record {
+          alone = record {
             why = _;
             refused = λ storage. run_refused order reads.files storage _ reads.gives;
             is = refl;
@@ -263,7 +273,7 @@ module _ (desk later : DeskAccount) (store : StoreAccount) (sink end : SinkAccou
           files = reads.files;
           agrees = reads.agrees;
           last = _;
-          refuses = record {
+          alone = record {
             why = _;
             refused = λ storage. run_refused order reads.files storage _ reads.gives;
             is = refl;

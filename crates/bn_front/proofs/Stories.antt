@@ -29,15 +29,16 @@ use Rattle.bn_edge.specs.Registers.{replaced}
 use Rattle.bn_model.specs.StoredImages.{image_of}
 use Rattle.bn_types.specs.declared.record.Record.{Record}
 use Rattle.bn_front.specs.declared.named_file.NamedFile.{NamedFile}
-use Rattle.bn_front.specs.Built.{NoTask, Report, Running, Task, Unbuilt, has_store, report_of}
+use Rattle.bn_front.specs.Built.{Generating, NoTask, Report, Running, Task, has_store, report_of}
 use Rattle.bn_front.specs.Built.{report_of_task, status_meant, task_of, told_as, uses_store}
 use Rattle.bn_front.specs.Due.{AreTold, Begins, Device, Due, IsDue, IsOfCommit, IsOfFiles}
 use Rattle.bn_front.specs.Due.{IsOfOpening, IsOfRun, IsOfStore, OfCommit, OfDesk, OfFiles}
-use Rattle.bn_front.specs.Due.{OfOpening, OfRun, OfStore, OpensStore, ReadsFile, Refuses}
+use Rattle.bn_front.specs.Due.{OfOpening, OfRun, OfStore, OpensStore, ReadsFile, StandsAlone}
 use Rattle.bn_front.specs.Due.{course_begun}
 use Rattle.bn_front.specs.Due.{TheChip, TheVault, act_at_end, due_text, ended, failed_line}
 use Rattle.bn_front.specs.Due.{finished}
-use Rattle.bn_front.specs.Due.{missing_line, only, reported, storage_by, unfinished, unread}
+use Rattle.bn_front.specs.Due.{generated, missing_line, only, reported, storage_by, unfinished}
+use Rattle.bn_front.specs.Due.{unread}
 use Rattle.bn_front.specs.Due.{unwritten}
 use Rattle.bn_front.specs.Headline.{AllWork, CommitsRun, EndsRun, FailsBefore, FailsInLast}
 use Rattle.bn_front.specs.Headline.{FailsWithin, IsAdmitted, IsAnswer, IsAnswered, IsBeforeRun}
@@ -50,6 +51,7 @@ use Rattle.bn_front.specs.Stored.{StorageStays, StoreAccount, Tells}
 use Rattle.bn_front.specs.Story.{AnswersDue, Counts, CountsChipFault, CountsDeskFault, CountsMiss}
 use Rattle.bn_front.specs.Story.{CountsSinkFault, CountsVaultFault, IsStory, WasDue}
 use Rattle.bn_front.proofs.Beginnings.{begun, both_read, store_refused}
+use Rattle.bn_front.proofs.Courses.{ended_by, generated_by}
 use Rattle.bn_front.proofs.Missing.{IsMissing, missing_file}
 use Rattle.bn_front.proofs.Moments.{HasOnlyNow, keeps_on, left_alike, stays_alike}
 use Rattle.bn_front.proofs.Reached.{hidden-secrets, opened-records, reached-sound, written-alike}
@@ -132,42 +134,40 @@ is_missing BadImage e = absurd cc
 is_missing BadScript e = absurd cc
 is_missing BadStore e = absurd cc
 
--- a run's end line has one of two statuses
-ended_by : (run : Course) (P : Status → Type 0) → P answer.Ended → P answer.Limit
-    → P (ended run).status
-ended_by run P one other = by_finish (finish_of run) where
-  by_finish : (f : Finish) → P (status_meant (finish_status f))
-  by_finish finish.Shutdown = one
-  by_finish finish.Limit = other
-
--- no refusal for files ends a run, or is of a device
-refuses_ended : (task : Task) (files : Files) (last : said.Report) → Refuses task files last
-    → EndsRun last.status → ⊥
-refuses_ended NoTask files last is ends = subst (λ (r : said.Report). EndsRun r.status) is ends
-refuses_ended Unbuilt files last is ends = subst (λ (r : said.Report). EndsRun r.status) is ends
-refuses_ended (Running order) files last refuses ends =
+-- what stands alone ends no run with a store, and is of no device
+alone_ended : (task : Task) (files : Files) (last : said.Report) → StandsAlone task files last
+    → has_store task ≡ true → EndsRun last.status → ⊥
+alone_ended NoTask files last is stored ends = absurd cc
+alone_ended (Generating number) files last is stored ends = absurd cc
+alone_ended (Running order) files last refuses stored ends =
     not_ended refuses.why.refusal
     (subst (λ (r : said.Report). EndsRun r.status) refuses.is ends)
 
-refuses_desk : (task : Task) (files : Files) (last : said.Report) → Refuses task files last
+alone_desk : (task : Task) (files : Files) (last : said.Report) → StandsAlone task files last
     → last.status ≢ answer.DeskFault
-refuses_desk NoTask files last is e = let s = ap (λ (r : said.Report). r.status) is in absurd cc
-refuses_desk Unbuilt files last is e = let s = ap (λ (r : said.Report). r.status) is in absurd cc
-refuses_desk (Running order) files last refuses e =
+alone_desk NoTask files last is e = let s = ap (λ (r : said.Report). r.status) is in absurd cc
+alone_desk (Generating number) files last is e =
+    generated_by number (λ s. s ≢ answer.DeskFault) (λ s. cc) (λ s. cc)
+    (sym (ap (λ (r : said.Report). r.status) is) ∙ e)
+alone_desk (Running order) files last refuses e =
     not_desk refuses.why.refusal (sym (ap (λ (r : said.Report). r.status) refuses.is) ∙ e)
 
-refuses_vault : (task : Task) (files : Files) (last : said.Report) → Refuses task files last
+alone_vault : (task : Task) (files : Files) (last : said.Report) → StandsAlone task files last
     → last.status ≢ answer.VaultFault
-refuses_vault NoTask files last is e = let s = ap (λ (r : said.Report). r.status) is in absurd cc
-refuses_vault Unbuilt files last is e = let s = ap (λ (r : said.Report). r.status) is in absurd cc
-refuses_vault (Running order) files last refuses e =
+alone_vault NoTask files last is e = let s = ap (λ (r : said.Report). r.status) is in absurd cc
+alone_vault (Generating number) files last is e =
+    generated_by number (λ s. s ≢ answer.VaultFault) (λ s. cc) (λ s. cc)
+    (sym (ap (λ (r : said.Report). r.status) is) ∙ e)
+alone_vault (Running order) files last refuses e =
     not_vault refuses.why.refusal (sym (ap (λ (r : said.Report). r.status) refuses.is) ∙ e)
 
-refuses_chip : (task : Task) (files : Files) (last : said.Report) → Refuses task files last
+alone_chip : (task : Task) (files : Files) (last : said.Report) → StandsAlone task files last
     → last.status ≢ answer.ChipFault
-refuses_chip NoTask files last is e = let s = ap (λ (r : said.Report). r.status) is in absurd cc
-refuses_chip Unbuilt files last is e = let s = ap (λ (r : said.Report). r.status) is in absurd cc
-refuses_chip (Running order) files last refuses e =
+alone_chip NoTask files last is e = let s = ap (λ (r : said.Report). r.status) is in absurd cc
+alone_chip (Generating number) files last is e =
+    generated_by number (λ s. s ≢ answer.ChipFault) (λ s. cc) (λ s. cc)
+    (sym (ap (λ (r : said.Report). r.status) is) ∙ e)
+alone_chip (Running order) files last refuses e =
     not_chip refuses.why.refusal (sym (ap (λ (r : said.Report). r.status) refuses.is) ∙ e)
 
 -- ---- which file is missing
@@ -181,10 +181,12 @@ record Misses (task : Task) (files : Files) (text : List ℕ) : Type 0 where
 no_storage : Storage
 no_storage = record { first = []; second = []; register = [] }
 
-misses : (task : Task) (files : Files) (last : said.Report) → Refuses task files last
+misses : (task : Task) (files : Files) (last : said.Report) → StandsAlone task files last
     → last.status ≡ answer.NoFile → Misses task files last.text
 misses NoTask files last is e = let s = ap (λ (r : said.Report). r.status) is in absurd cc
-misses Unbuilt files last is e = let s = ap (λ (r : said.Report). r.status) is in absurd cc
+misses (Generating number) files last is e =
+    absurd (generated_by number (λ s. s ≢ answer.NoFile) (λ s. cc) (λ s. cc)
+    (sym (ap (λ (r : said.Report). r.status) is) ∙ e))
 misses (Running order) files last refuses e =
     let missing = missing_file order files refuses.why
     (is_missing refuses.why.refusal
@@ -212,7 +214,7 @@ module _ (task : Task) (desk : DeskAccount) (store : StoreAccount) (due : Due) w
   missing_due : IsDue task desk store due → due.last.status ≡ answer.NoFile
       → (files : Files) × AreTold desk.files files × Misses task files (due_text due)
   missing_due (OfFiles f) e =
-      let m = misses task f.files f.last f.refuses (sym (last_is (only f.last) f.is) ∙ e) in
+      let m = misses task f.files f.last f.alone (sym (last_is (only f.last) f.is) ∙ e) in
       (f.files, f.agrees, subst (λ (d : Due). Misses task f.files (due_text d)) (sym f.is) m)
   missing_due (OfStore f) e = let s = last_is _ f.is in absurd cc
   missing_due (OfRun f) e =
@@ -226,7 +228,7 @@ module _ (task : Task) (desk : DeskAccount) (store : StoreAccount) (due : Due) w
   desk_due : IsDue task desk store due → due.last.status ≡ answer.DeskFault
       → (file : NamedFile) × ReadsFile task file desk × (due_text due ≡ failed_line file)
   desk_due (OfFiles f) e =
-      absurd (refuses_desk task f.files f.last f.refuses (sym (last_is (only f.last) f.is) ∙ e))
+      absurd (alone_desk task f.files f.last f.alone (sym (last_is (only f.last) f.is) ∙ e))
   desk_due (OfStore f) e = let s = last_is _ f.is in absurd cc
   desk_due (OfRun f) e =
       absurd (run_status f (λ s. s ≡ answer.DeskFault) e (λ s. cc) (λ s. cc))
@@ -241,7 +243,7 @@ module _ (task : Task) (desk : DeskAccount) (store : StoreAccount) (due : Due) w
 
   vault_due : IsDue task desk store due → due.last.status ≡ answer.VaultFault → OfDevice TheVault
   vault_due (OfFiles f) e =
-      absurd (refuses_vault task f.files f.last f.refuses (sym (last_is (only f.last) f.is) ∙ e))
+      absurd (alone_vault task f.files f.last f.alone (sym (last_is (only f.last) f.is) ∙ e))
   vault_due (OfStore f) e = let s = last_is _ f.is in absurd cc
   vault_due (OfRun f) e =
       absurd (run_status f (λ s. s ≡ answer.VaultFault) e (λ s. cc) (λ s. cc))
@@ -253,7 +255,7 @@ module _ (task : Task) (desk : DeskAccount) (store : StoreAccount) (due : Due) w
 
   chip_due : IsDue task desk store due → due.last.status ≡ answer.ChipFault → OfDevice TheChip
   chip_due (OfFiles f) e =
-      absurd (refuses_chip task f.files f.last f.refuses (sym (last_is (only f.last) f.is) ∙ e))
+      absurd (alone_chip task f.files f.last f.alone (sym (last_is (only f.last) f.is) ∙ e))
   chip_due (OfStore f) e = let s = last_is _ f.is in absurd cc
   chip_due (OfRun f) e =
       absurd (run_status f (λ s. s ≡ answer.ChipFault) e (λ s. cc) (λ s. cc))
@@ -286,7 +288,7 @@ module _ (task : Task) (desk : DeskAccount) (store : StoreAccount) (due : Due) w
         → (run : Begins task desk store)
         × IsCommitted (course_begun run).last.records before after
     committed_due (OfFiles f) stored ends =
-        absurd (refuses_ended task f.files f.last f.refuses
+        absurd (alone_ended task f.files f.last f.alone stored
         (subst (λ (d : Due). EndsRun d.last.status) f.is ends))
     committed_due (OfStore f) stored ends =
         absurd (subst (λ (d : Due). EndsRun d.last.status) f.is ends)
@@ -312,6 +314,11 @@ module _ (task : Task) (desk : DeskAccount) (store : StoreAccount) (due : Due) w
 
 -- ---- what is due is the report
 
+summary_reported : (number : ℕ) (storage : Storage)
+    → reported (only (generated number)) storage ≡ told_as (whole.report_of_gen number storage)
+unfolding whole.report_of_gen
+summary_reported number storage = refl
+
 abbrev NoDevice : Status → Type 0
 NoDevice status =
     (status ≢ answer.DeskFault) × (status ≢ answer.VaultFault) × (status ≢ answer.ChipFault)
@@ -332,13 +339,15 @@ module _ (task : Task) (desk : DeskAccount) (store : StoreAccount) (due : Due)
       (keeps_on store after (subst (λ (d : Due). IsLeft d.act store after) is ended_so) storage
       keeps)
 
-  files_reported : (files : Files) (last : said.Report) → Refuses task files last
+  files_reported : (files : Files) (last : said.Report) → StandsAlone task files last
       → (storage : Storage) → reported (only last) storage ≡ report_of_task task files storage
   files_reported files last refuses storage = by_task task refuses where
-    by_task : (t : Task) → Refuses t files last
+    by_task : (t : Task) → StandsAlone t files last
         → reported (only last) storage ≡ report_of_task t files storage
     by_task NoTask is = ap (λ (r : said.Report). reported (only r) storage) is
-    by_task Unbuilt is = ap (λ (r : said.Report). reported (only r) storage) is
+    by_task (Generating number) is =
+        ap (λ (r : said.Report). reported (only r) storage) is
+        ∙ summary_reported number storage
     by_task (Running order) why =
         ap (λ (r : said.Report). reported (only r) storage) why.is
         ∙ sym (ap told_as (refusal_reported order files storage why.why (why.refused storage)))
@@ -350,7 +359,7 @@ module _ (task : Task) (desk : DeskAccount) (store : StoreAccount) (due : Due)
       told = f.agrees;
       is = λ storage seen.
           ap (λ (d : Due). reported d storage) f.is
-          ∙ files_reported f.files f.last f.refuses storage;
+          ∙ files_reported f.files f.last f.alone storage;
       left = left_by f.last f.is;
     },
   )

@@ -1,5 +1,5 @@
--- What the program does, as far as it is built: no generated run yet.
-use Rattle.std.specs.Prelude.{ℕ, Bool, true, false, List, codes, Option, Some, None}
+-- What the program does: what words ask for, and what comes of it.
+use Rattle.std.specs.Prelude.{ℕ, Bool, true, false, List, Option, Some, None}
 use Rattle.bn_types.specs.declared.status.Status.{Status}
 use Rattle.bn_types.specs.declared.status.Status.TheVariants as status
 use Rattle.bn_model.specs.CommandLines.{Gen, Order, Run, RunOrder, order_among, still_names}
@@ -12,13 +12,13 @@ use Rattle.bn_model.specs.WholeReports as whole
 pub data Task : Type 0 where
   -- the words are no command line
   NoTask : Task
-  -- it isn't built yet
-  Unbuilt : Task
+  -- the run of what is made of a number
+  Generating : (number : ℕ) → Task
   Running : (order : RunOrder) → Task
 
 abbrev pub task_by : Option Order → Task
 task_by None = NoTask
-task_by (Some (Gen number)) = Unbuilt
+task_by (Some (Gen number)) = Generating number
 task_by (Some (Run order)) = Running order
 
 -- what some words ask for, of a machine whose pages stay in their frames
@@ -28,7 +28,7 @@ task_of words = task_by (order_among still_names words)
 -- whether it opens the store, and commits it at the end
 abbrev pub has_store : Task → Bool
 has_store NoTask = false
-has_store Unbuilt = false
+has_store (Generating number) = false
 has_store (Running order) = order.is_stored
 
 abbrev pub uses_store : List (List ℕ) → Bool
@@ -59,13 +59,9 @@ told_as report = record {
   storage = report.storage;
 }
 
-abbrev pub unbuilt_report : Storage → Report
-unbuilt_report storage =
-    record { status = status.Unbuilt; text = codes "unbuilt\n"; storage = storage }
-
 abbrev pub report_of_task : Task → Files → Storage → Report
 report_of_task NoTask files storage = told_as (whole.report_of_order None files storage)
-report_of_task Unbuilt files storage = unbuilt_report storage
+report_of_task (Generating number) files storage = told_as (whole.report_of_gen number storage)
 report_of_task (Running order) files storage = told_as (whole.report_of_run order files storage)
 
 -- the status, the text and the storage of a call with these words

@@ -1,27 +1,29 @@
--- What a call has to write, where no write fails: the lines of its events, and then a last line.
+-- What a call has to write, where no write fails: the lines of its events, and then a last line; or
+-- the summary of a generated run.
 use Rattle.std.specs.Prelude.{◌≡◌, ◌≢◌, ℕ, ◌*◌, Bool, true, false, List, [], ◌++◌, codes, Option}
 use Rattle.std.specs.Prelude.{Some}
 use Rattle.std.specs.Prelude.{None, Result, Ok, Err}
 use Rattle.bn_types.specs.declared.record.Record.{Record}
-use Rattle.bn_types.specs.declared.status.Status.TheVariants as status
 use Rattle.bn_types.specs.declared.status.Status.TheVariants.{ChipFault, DeskFault, Store}
 use Rattle.bn_types.specs.declared.status.Status.TheVariants.{VaultFault, Words}
 use Rattle.bn_edge.specs.Accounts.{DeskAccount}
 use Rattle.bn_edge.specs.Files.{file_named}
 use Rattle.bn_model.specs.CommandLines.{RunOrder}
+use Rattle.bn_model.specs.Generating.{made_of}
 use Rattle.bn_model.specs.Opening.{Image}
 use Rattle.bn_model.specs.Reporting.{Files, end_line}
 use Rattle.bn_model.specs.Reporting as said
 use Rattle.bn_model.specs.Running.{Course}
 use Rattle.bn_model.specs.Spelling.{text_of}
 use Rattle.bn_model.specs.Storing.{Storage, committed, records_in}
+use Rattle.bn_model.specs.Summaries.{generated_start, summary}
 use Rattle.bn_model.specs.WholeReports.{finish_status, refusal_status}
 use Rattle.bn_model.specs.WholeRuns.{Refused, course_of, finish_of, image_in, records_for}
 use Rattle.bn_model.specs.WholeRuns.{script_for}
 use Rattle.bn_model.specs.WholeRuns as whole
 use Rattle.bn_front.specs.declared.named_file.NamedFile.{NamedFile}
 use Rattle.bn_front.specs.declared.named_file.NamedFile.TheVariants as named
-use Rattle.bn_front.specs.Built.{NoTask, Report, Running, Task, Unbuilt, status_meant}
+use Rattle.bn_front.specs.Built.{Generating, NoTask, Report, Running, Task, status_meant}
 use Rattle.bn_front.specs.Starts.{Parts, start_from}
 use Rattle.bn_front.specs.Stored.{Act, Commits, FailsInChip, FailsInVault, IsSeen, Leaves}
 use Rattle.bn_front.specs.Stored.{StoreAccount, Tells}
@@ -38,7 +40,7 @@ pub record Due : Type 0 where
 abbrev pub due_text : Due → List ℕ
 due_text due = due.lines ++ due.last.text
 
--- one line and nothing else
+-- one line, or one summary, and nothing else
 abbrev pub only : said.Report → Due
 only last = record { lines = []; act = Leaves; last = last }
 
@@ -60,9 +62,6 @@ reported due storage = record {
 
 abbrev pub no_command : said.Report
 no_command = record { status = Words; text = codes "words\n" }
-
-abbrev pub no_part : said.Report
-no_part = record { status = status.Unbuilt; text = codes "unbuilt\n" }
 
 abbrev pub bad_store : List ℕ → said.Report
 bad_store line = record { status = Store; text = line }
@@ -126,6 +125,19 @@ unfinished device run = record {
   lines = text_of run.told;
   act = act_failed device run.last.records;
   last = unwritten device;
+}
+
+-- ---- a generated run
+
+-- the run of what is made of a number
+abbrev pub generated_run : (number : ℕ) → Course
+generated_run number = course_of (generated_start (made_of number))
+
+-- its summary
+abbrev pub generated : (number : ℕ) → said.Report
+generated number = record {
+  status = status_meant (finish_status (finish_of (generated_run number)));
+  text = summary number (generated_run number);
 }
 
 -- ---- how far a call comes
@@ -194,16 +206,17 @@ pub record RefusesRun (order : RunOrder) (files : Files) (last : said.Report) : 
   pub refused : (storage : Storage) → whole.start_of order files storage ≡ Err why
   pub is : last ≡ record { status = status_meant (refusal_status why.refusal); text = why.line }
 
-abbrev pub Refuses : Task → Files → said.Report → Type 0
-Refuses NoTask files last = last ≡ no_command
-Refuses Unbuilt files last = last ≡ no_part
-Refuses (Running order) files last = RefusesRun order files last
+-- what is answered alone: no command, a generated run's summary, or what refuses a run
+abbrev pub StandsAlone : Task → Files → said.Report → Type 0
+StandsAlone NoTask files last = last ≡ no_command
+StandsAlone (Generating number) files last = last ≡ generated number
+StandsAlone (Running order) files last = RefusesRun order files last
 
 pub record IsOfFiles (task : Task) (desk : DeskAccount) (due : Due) : Type 0 where
   pub files : Files
   pub agrees : AreTold desk.files files
   pub last : said.Report
-  pub refuses : Refuses task files last
+  pub alone : StandsAlone task files last
   pub is : due ≡ only last
 
 -- the line of what the store refuses

@@ -13,7 +13,7 @@ use Rattle.bn_model.specs.State.{State}
 use Rattle.bn_model.specs.Storing.{Storage}
 use Rattle.bn_model.specs.WholeRuns.{Refused, Start}
 use Rattle.bn_model.specs.WholeRuns as whole
-use Rattle.bn_front.specs.Built.{NoTask, Running, Task, Unbuilt, task_of}
+use Rattle.bn_front.specs.Built.{Generating, NoTask, Running, Task, task_of}
 
 -- ---- where it begins
 
@@ -34,9 +34,11 @@ abbrev pub if_begun : Result Start Refused → Option Start
 if_begun (Ok start) = Some start
 if_begun (Err why) = None
 
+-- Runs of `run` alone begin so, and what is told of starts is told of them: what is made of a
+-- number is run by its number alone, over no files and no storage.
 abbrev pub start_of_task : Task → Files → Storage → Option Start
 start_of_task NoTask files storage = None
-start_of_task Unbuilt files storage = None
+start_of_task (Generating number) files storage = None
 start_of_task (Running order) files storage = if_begun (whole.start_of order files storage)
 
 -- the start of the run of these words over these files and this storage, None where there is no run

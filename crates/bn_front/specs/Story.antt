@@ -30,8 +30,8 @@ use Rattle.bn_front.specs.declared.words_error.WordsError.{WordsError}
 use Rattle.bn_front.specs.declared.words_error.WordsError.TheVariants as error
 use Rattle.bn_front.specs.Built.{Task}
 use Rattle.bn_front.specs.Due.{Device, Due, IsDue, TheChip, TheVault, act_failed, bad_store}
-use Rattle.bn_front.specs.Due.{desk_failed, due_text, ended, missing_line, no_command, unread}
-use Rattle.bn_front.specs.Due.{unwritten}
+use Rattle.bn_front.specs.Due.{desk_failed, due_text, ended, generated, missing_line, no_command}
+use Rattle.bn_front.specs.Due.{unread, unwritten}
 use Rattle.bn_front.specs.Headline.{CountsStay, FailsWithin, IsAnswer, Outside}
 use Rattle.bn_front.specs.Reading.{start_with}
 use Rattle.bn_front.specs.Stored.{Act, Commits, IsLeft, StorageStays, StoreAccount, Tells}
@@ -110,6 +110,11 @@ abbrev pub RunsPlainly : Course → Status → SinkAccount → SinkAccount → T
 RunsPlainly run status old new =
     WantsMemory status old new ⊎
     (StopsWithin run status old new ⊎ EndsWith run (ended run) status old new)
+
+-- what a generated run comes to: want of memory, or its summary
+abbrev pub RunsGenerated : (number : ℕ) → Status → SinkAccount → SinkAccount → Type 0
+RunsGenerated number status old new =
+    WantsMemory status old new ⊎ AnswersReport (generated number) status old new
 
 -- ---- the store
 

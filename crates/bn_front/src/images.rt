@@ -44,7 +44,7 @@ pub fn read_inputs<D: Desk>(
 }
 
 /// The image of a file.
-fn load_image(alloc: Global, file: &[u8], ram_pages: u32) -> Result<Loaded, Refusal>
+pub fn load_image(alloc: Global, file: &[u8], ram_pages: u32) -> Result<Loaded, Refusal>
     requires least { 16 ≤ ram_pages }
     requires most { ram_pages ≤ 4096 }
     ensures image { Judges (λ image. image_meant image)

@@ -9,6 +9,7 @@ pub use top::bastion;
 pub use words_error::WordsError;
 
 mod form;
+mod generated;
 mod images;
 mod inputs;
 mod item;
@@ -29,6 +30,7 @@ mod scripts;
 mod stage;
 mod step;
 mod stored;
+mod summary;
 #[cfg(test)]
 mod tests;
 mod texts;

@@ -60,7 +60,7 @@ fn read_named<D: Desk>(
 }
 
 /// The script of a text.
-fn parse(alloc: Global, text: &[u8], harts: u8) -> Result<Script, Refusal>
+pub fn parse(alloc: Global, text: &[u8], harts: u8) -> Result<Script, Refusal>
     requires some { 1 ≤ harts }
     requires few { harts ≤ 4 }
     ensures gives { Judges (λ script. script) (script_read (script_in harts text.now)) result }

@@ -12,6 +12,7 @@ mod command_lines;
 mod counters;
 mod elf;
 mod execution;
+mod generated;
 mod gigapages;
 mod guest;
 mod harts;
@@ -133,14 +134,25 @@ fn call_words(
     files: &[(&str, &[u8])],
     pieces: &[&str],
 ) -> Status {
-    let mut desk = desk_of(alloc, files, &[]).expect(rt, "memory");
-    let mut vault = MemVault::of(alloc, b"", b"", Vec::new(alloc)).expect(rt, "memory");
-    let mut chip = MemChip::of([0; 32], Vec::new(alloc));
     let mut out = MemSink::of(alloc, 16_384, Vec::new(alloc)).expect(rt, "memory");
-    let status = bastion(alloc, words, &mut desk, &mut vault, &mut chip, &mut out);
+    let status = run_words(rt, alloc, words, files, &mut out);
     let expected = text(alloc, pieces).expect(rt, "memory");
     assert_eq!(rt; out.bytes(), expected.as_bytes(), "of {words:?}");
     status
+}
+
+/// Calls with the words where there are these files, and no store.
+fn run_words(
+    rt: &impl Abort,
+    alloc: Global,
+    words: &[Vec<u8>],
+    files: &[(&str, &[u8])],
+    out: &mut MemSink,
+) -> Status {
+    let mut desk = desk_of(alloc, files, &[]).expect(rt, "memory");
+    let mut vault = MemVault::of(alloc, b"", b"", Vec::new(alloc)).expect(rt, "memory");
+    let mut chip = MemChip::of([0; 32], Vec::new(alloc));
+    bastion(alloc, words, &mut desk, &mut vault, &mut chip, out)
 }
 
 /// Runs an image for at most so many events, and answers the status where its trace is these lines.

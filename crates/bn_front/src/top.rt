@@ -7,6 +7,7 @@ ghost use Rattle.bn_front.specs.Meant.{AreInRange, IsInRange, bytes_of_words, or
 ghost use Rattle.bn_front.specs.Meant.{own_meant};
 ghost use Rattle.bn_front.specs.Story.{AnswersWords, CountsSinkFault, IsStory};
 
+use crate::generated::serve_generated;
 use crate::images::read_inputs;
 use crate::plain::serve_plain;
 use crate::refusing::refuse;
@@ -97,7 +98,7 @@ fn serve_order<D: Desk, V: Vault, C: Chip, O: Sink>(
 {
     match order {
         Order::Run(run) => serve_run(alloc, run, desk, vault, chip, out),
-        Order::Gen(_) => say(out, b"unbuilt\n", Status::Unbuilt),
+        Order::Gen(number) => serve_generated(alloc, *number, out),
     }
 }
 

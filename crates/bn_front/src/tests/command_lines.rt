@@ -1,11 +1,11 @@
-//! What the program says of words, and what it isn't built for yet.
+//! What the program says of words.
 
 use super::call;
 use super::called::{Called, expect_calls};
 use bn_types::Status;
 
 /// Words that are no command line.
-const REFUSED: [&str; 18] = [
+const REFUSED: [&str; 23] = [
     "",
     "run",
     "run a.img --steps 5 --steps 5",
@@ -24,6 +24,11 @@ const REFUSED: [&str; 18] = [
     "run a.img --script=",
     "run a.img --move 5",
     "run a.img --help",
+    "gen",
+    "gen 18446744073709551616",
+    "gen 01",
+    "gen 1 2",
+    "gen 1 --store",
 ];
 
 /// Words in other orders and spellings.
@@ -97,9 +102,6 @@ const ACCEPTED: [Called<'static>; 10] = [
     },
 ];
 
-/// Command lines that need what isn't built, before any file is read.
-const UNBUILT: [&str; 2] = ["gen 5", "gen 18446744073709551615"];
-
 #[test]
 fn other_words_are_no_command_line(rt: HostRuntime) {
     for words in REFUSED {
@@ -116,19 +118,6 @@ fn other_words_are_no_command_line(rt: HostRuntime) {
 #[test]
 fn words_stand_in_any_order(rt: HostRuntime) {
     expect_calls(&rt, rt.alloc(), &ACCEPTED);
-}
-
-#[test]
-fn generated_runs_are_not_built(rt: HostRuntime) {
-    for words in UNBUILT {
-        let called = Called {
-            words,
-            script: "",
-            status: Status::Unbuilt,
-            text: "unbuilt\n",
-        };
-        expect_calls(&rt, rt.alloc(), &[called]);
-    }
 }
 
 #[test]
