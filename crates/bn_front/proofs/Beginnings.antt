@@ -1,5 +1,5 @@
 -- Where a run begins, from its image, its script and its records, and what refuses it.
-use Rattle.std.proofs.Common.{◌≡◌, ◌*◌, Bool, List, [], Result, Ok, Err, refl, sym, ap, ◌∙◌}
+use Rattle.std.proofs.Common.{◌≡◌, ◌*◌, List, Result, Ok, Err, refl, sym, ap, ◌∙◌}
 use Rattle.bn_types.specs.declared.record.Record.{Record}
 use Rattle.bn_model.specs.CommandLines.{RunOrder}
 use Rattle.bn_model.specs.Opening.{Image}

@@ -1,5 +1,5 @@
 -- What a commit leaves of a store, and what ends a run with one.
-use Rattle.std.proofs.Common.{◌≡◌, ◌≢◌, ℕ, inl, inr, List, Option, Some, None, Result, Ok, Err}
+use Rattle.std.proofs.Common.{◌≡◌, ◌≢◌, ℕ, inl, inr, List, Option, Some, None, Result, Err}
 use Rattle.std.proofs.Common.{refl}
 use Rattle.std.proofs.Common.{sym, ap, subst, ◌∙◌, ◌<◌, ◌-◌, ◌^◌, arith}
 use Rattle.sha2.specs.Sha256.{sha256}
@@ -21,7 +21,7 @@ use Rattle.bn_model.specs.Running.{Blind, Course, course}
 use Rattle.bn_model.specs.State.{State}
 use Rattle.bn_model.specs.StoredImages.{Stored, image_of}
 use Rattle.bn_model.specs.Storing.{Storage, malformed_line}
-use Rattle.bn_model.specs.WholeRuns.{always, course_of}
+use Rattle.bn_model.specs.WholeRuns.{always}
 use Rattle.bn_machine.specs.Telling.{FinishesRun}
 use Rattle.bn_vault.specs.Committing as vault
 use Rattle.bn_vault.specs.Committing.{HasNoTwins}
@@ -37,9 +37,9 @@ use Rattle.bn_front.specs.declared.inputs.Inputs.{Inputs}
 use Rattle.bn_front.specs.Due.{Device, TheChip, TheVault, act_failed, ended}
 use Rattle.bn_front.specs.Stored.{CrashesOpenAlike, ImageStands, IsCommitted, IsLeft, StorageStays}
 use Rattle.bn_front.specs.Stored.{StoreAccount, Tells, areas_of, areas_with}
-use Rattle.bn_front.specs.Story.{AnswersReport, AnswersUnopened, ClosesStored, CountsChip}
-use Rattle.bn_front.specs.Story.{CountsDevice, CountsVault, EndsStored, EndsWith, IsOnlyRead}
-use Rattle.bn_front.specs.Story.{IsPlace, OpensAndRuns, RunsStored, current_of, device_of}
+use Rattle.bn_front.specs.Story.{AnswersReport, AnswersUnopened, ClosesStored}
+use Rattle.bn_front.specs.Story.{CountsDevice, EndsStored, EndsWith, IsOnlyRead}
+use Rattle.bn_front.specs.Story.{IsPlace, OpensAndRuns, RunsStored, device_of}
 use Rattle.bn_front.specs.Story.{digests_line}
 use Rattle.bn_front.proofs.Courses.{closing-ended}
 use Rattle.bn_front.proofs.Moments.{HasOnlyNow, left_on, stay_on, unchanged}

@@ -1,10 +1,10 @@
 -- What is left of a store by calls that follow one another.
-use Rattle.std.proofs.Common.{◌≡◌, ◌≢◌, ℕ, ◌≤◌, inl, inr, ◌⊎◌, Bool, true, false, List, Some, None}
-use Rattle.std.proofs.Common.{bytes_eq, refl, sym, ap, ◌∙◌, arith}
+use Rattle.std.proofs.Common.{◌≡◌, ℕ, ◌≤◌, inl, inr, ◌⊎◌, List}
+use Rattle.std.proofs.Common.{refl, ap, ◌∙◌, arith}
 use Rattle.sha2.specs.Sha256.{sha256}
 use Rattle.bn_edge.specs.Accounts.{VaultAccount}
 use Rattle.bn_edge.specs.Areas.{Areas}
-use Rattle.bn_edge.specs.Crashes.{Elapses, LeavesOnly}
+use Rattle.bn_edge.specs.Crashes.{LeavesOnly}
 use Rattle.bn_edge.specs.Registers.{IsOldOrNew, replaced}
 use Rattle.bn_types.specs.declared.record.Record.{Record}
 use Rattle.bn_model.specs.StoredImages.{image_of}

@@ -32,16 +32,16 @@ use Rattle.bn_front.specs.Due.{AreAccepted, Begins, Device, Due, IsDue, OfCommit
 use Rattle.bn_front.specs.Due.{OfOpening}
 use Rattle.bn_front.specs.Due.{OfRun, OfStore, OpensStore, StandsAlone, TheChip, TheVault}
 use Rattle.bn_front.specs.Due.{bad_store}
-use Rattle.bn_front.specs.Due.{desk_failed, due_text, ended, finished, missing_line, no_command}
+use Rattle.bn_front.specs.Due.{ended, finished, no_command}
 use Rattle.bn_front.specs.Due.{generated, only, unfinished, unread, unwritten}
 use Rattle.bn_front.specs.Headline.{CountsStay, Outside}
 use Rattle.bn_front.specs.Meant as meant
 use Rattle.bn_front.specs.Meant.{blind_meant, order_meant, own_meant}
 use Rattle.bn_front.specs.Reading.{ReadsRun, files_seen, parts_meant, start_with}
-use Rattle.bn_front.specs.Stored.{IsLeft, IsSeen, Leaves, StorageStays, StoreAccount, Tells}
-use Rattle.bn_front.specs.Story.{Answers, AnswersDue, AnswersRefusal, AnswersReport, AnswersWords}
+use Rattle.bn_front.specs.Stored.{IsLeft, IsSeen, StorageStays, StoreAccount, Tells}
+use Rattle.bn_front.specs.Story.{AnswersRefusal, AnswersReport, AnswersWords}
 use Rattle.bn_front.specs.Story.{Counts, CountsChipFault, CountsDeskFault, CountsDevice, CountsMiss}
-use Rattle.bn_front.specs.Story.{CountsVaultFault, IsOnlyRead, IsOpened, IsStory, LacksMemory}
+use Rattle.bn_front.specs.Story.{CountsVaultFault, IsOnlyRead, IsStory}
 use Rattle.bn_front.specs.Story.{OpensAndRuns, RunsGenerated, RunsPlainly, RunsStored, WantsMemory}
 use Rattle.bn_front.specs.Story.{act_of, last_of}
 use Rattle.bn_front.proofs.Beginnings.{parts_read, run_refused}

@@ -5,7 +5,6 @@ use Rattle.std.proofs.Common.{Err, bytes_eq, codes, drop, inl, inr, refl, sym, a
 use Rattle.std.proofs.lemmas.Slice.Eq.{bytes_eq-Decides}
 use Rattle.hex.specs.Hex.{encode_lower}
 use Rattle.sha2.specs.Sha256.{sha256}
-use Rattle.bn_edge.specs.Areas.{other_area}
 use Rattle.bn_edge.specs.declared.area.Area.{Area}
 use Rattle.bn_edge.specs.declared.area.Area.TheVariants.{First, Second}
 use Rattle.bn_types.specs.declared.digest.Digest.{Digest}
@@ -28,7 +27,6 @@ use Rattle.bn_model.proofs.SegmentFacts.{byte-below}
 use Rattle.bn_model.proofs.StoredLemmas.{IsRead-from}
 use Rattle.bn_vault.specs.Committing as vault
 use Rattle.bn_vault.specs.Openings.{IsOpened, IsRefused, current_by, opening_of}
-use Rattle.bn_vault.specs.declared.reopen_fault.ReopenFault.{ReopenFault}
 use Rattle.bn_vault.specs.declared.reopen_fault.ReopenFault.TheVariants as fault
 use Rattle.bn_front.specs.Headline.{StandUnder}
 use Rattle.bn_front.specs.Starts.{AreBytes}

@@ -1,11 +1,9 @@
 -- The promise of the one public call, from its whole story.
-use Rattle.std.proofs.Common.{◌≡◌, ◌≢◌, ◌≤◌, ℕ, ◌⊎◌, inl, inr, List, [], ◌∷◌, ◌++◌, Bool, true}
+use Rattle.std.proofs.Common.{◌≡◌, ◌≢◌, ℕ, ◌⊎◌, inl, inr, List, [], ◌∷◌, ◌++◌, Bool, true}
 use Rattle.std.proofs.Common.{false}
-use Rattle.std.proofs.Common.{Option, Some, None, Ok, Err, refl, sym, ap, subst, ◌∙◌, arith}
+use Rattle.std.proofs.Common.{Option, Some, refl, sym, ap, subst, ◌∙◌, arith}
 use Rattle.std.proofs.lemmas.List.{append_assoc}
 use Rattle.bn_types.specs.declared.event.Event.{Event}
-use Rattle.bn_types.specs.declared.finish.Finish.{Finish}
-use Rattle.bn_types.specs.declared.finish.Finish.TheVariants as finish
 use Rattle.bn_types.specs.declared.status.Status.{Status}
 use Rattle.bn_types.specs.declared.status.Status.TheVariants as answer
 use Rattle.bn_edge.specs.Accounts.{DeskAccount, SinkAccount}
@@ -15,44 +13,41 @@ use Rattle.bn_model.specs.Reporting.{Files}
 use Rattle.bn_model.specs.Reporting as said
 use Rattle.bn_model.specs.Running.{Course}
 use Rattle.bn_model.specs.State.{State}
-use Rattle.bn_model.specs.Storing.{Storage, committed}
+use Rattle.bn_model.specs.Storing.{Storage}
 use Rattle.bn_model.specs.WholeReports as whole
 use Rattle.bn_model.specs.WholeReports.{finish_status, refusal_status}
-use Rattle.bn_model.specs.WholeRuns.{BadImage, BadScript, BadStore, NoFile, Refusal, course_of}
-use Rattle.bn_model.specs.WholeRuns.{finish_of, records_for, records_found}
-use Rattle.bn_model.specs.WholeRuns as runs
+use Rattle.bn_model.specs.WholeRuns.{BadImage, BadScript, BadStore, NoFile, Refusal}
+use Rattle.bn_model.specs.WholeRuns.{records_for, records_found}
 use Rattle.bn_model.proofs.ChangeLemmas.{changes-are-touched}
 use Rattle.bn_model.proofs.StartLemmas.{modules-start}
 use Rattle.bn_model.proofs.TouchLemmas.{touches-are-admitted}
 use Rattle.sha2.specs.Sha256.{sha256}
 use Rattle.bn_edge.specs.Registers.{replaced}
 use Rattle.bn_model.specs.StoredImages.{image_of}
-use Rattle.bn_types.specs.declared.record.Record.{Record}
 use Rattle.bn_front.specs.declared.named_file.NamedFile.{NamedFile}
 use Rattle.bn_front.specs.Built.{Generating, NoTask, Report, Running, Task, has_store, report_of}
 use Rattle.bn_front.specs.Built.{report_of_task, status_meant, task_of, told_as, uses_store}
 use Rattle.bn_front.specs.Due.{AreTold, Begins, Device, Due, IsDue, IsOfCommit, IsOfFiles}
 use Rattle.bn_front.specs.Due.{IsOfOpening, IsOfRun, IsOfStore, OfCommit, OfDesk, OfFiles}
-use Rattle.bn_front.specs.Due.{OfOpening, OfRun, OfStore, OpensStore, ReadsFile, StandsAlone}
+use Rattle.bn_front.specs.Due.{OfOpening, OfRun, OfStore, ReadsFile, StandsAlone}
 use Rattle.bn_front.specs.Due.{course_begun}
-use Rattle.bn_front.specs.Due.{TheChip, TheVault, act_at_end, due_text, ended, failed_line}
+use Rattle.bn_front.specs.Due.{TheChip, TheVault, act_at_end, due_text, failed_line}
 use Rattle.bn_front.specs.Due.{finished}
-use Rattle.bn_front.specs.Due.{generated, missing_line, only, reported, storage_by, unfinished}
+use Rattle.bn_front.specs.Due.{generated, missing_line, only, reported, storage_by}
 use Rattle.bn_front.specs.Due.{unread}
-use Rattle.bn_front.specs.Due.{unwritten}
-use Rattle.bn_front.specs.Headline.{AllWork, CommitsRun, EndsRun, FailsBefore, FailsInLast}
-use Rattle.bn_front.specs.Headline.{FailsWithin, IsAdmitted, IsAnswer, IsAnswered, IsBeforeRun}
+use Rattle.bn_front.specs.Headline.{AllWork, CommitsRun, EndsRun}
+use Rattle.bn_front.specs.Headline.{FailsWithin, IsAdmitted, IsAnswer, IsBeforeRun}
 use Rattle.bn_front.specs.Headline.{IsQuiet}
 use Rattle.bn_front.specs.Headline.{Outside, Promise, StartsModules, StoreWorks, WritesFault}
-use Rattle.bn_front.specs.Headline.{WritesFrontOfDue, WritesLine, WritesReport}
+use Rattle.bn_front.specs.Headline.{WritesLine, WritesReport}
 use Rattle.bn_front.specs.Starts.{HoldBytes, RunMakes, StoreBytes, start_from}
-use Rattle.bn_front.specs.Stored.{CrashesOpenAlike, IsCommitted, IsLeft, IsSeen, Keeps, Leaves}
+use Rattle.bn_front.specs.Stored.{CrashesOpenAlike, IsCommitted, IsLeft, IsSeen, Keeps}
 use Rattle.bn_front.specs.Stored.{StorageStays, StoreAccount, Tells}
-use Rattle.bn_front.specs.Story.{AnswersDue, Counts, CountsChipFault, CountsDeskFault, CountsMiss}
+use Rattle.bn_front.specs.Story.{Counts, CountsChipFault, CountsDeskFault, CountsMiss}
 use Rattle.bn_front.specs.Story.{CountsSinkFault, CountsVaultFault, IsStory, WasDue}
 use Rattle.bn_front.proofs.Beginnings.{begun, both_read, store_refused}
 use Rattle.bn_front.proofs.Courses.{ended_by, generated_by}
-use Rattle.bn_front.proofs.Missing.{IsMissing, missing_file}
+use Rattle.bn_front.proofs.Missing.{missing_file}
 use Rattle.bn_front.proofs.Moments.{HasOnlyNow, keeps_on, left_alike, stays_alike}
 use Rattle.bn_front.proofs.Reached.{hidden-secrets, opened-records, reached-sound, written-alike}
 use Rattle.bn_front.proofs.StoreLemmas.{committed_register, refusal_reported, run_reported}

@@ -1,5 +1,5 @@
 -- What the program does: what words ask for, and what comes of it.
-use Rattle.std.specs.Prelude.{ℕ, Bool, true, false, List, Option, Some, None}
+use Rattle.std.specs.Prelude.{ℕ, Bool, false, List, Option, Some, None}
 use Rattle.bn_types.specs.declared.status.Status.{Status}
 use Rattle.bn_types.specs.declared.status.Status.TheVariants as status
 use Rattle.bn_model.specs.CommandLines.{Gen, Order, Run, RunOrder, order_among, still_names}

@@ -2,7 +2,7 @@
 -- the summary of a generated run.
 use Rattle.std.specs.Prelude.{◌≡◌, ◌≢◌, ℕ, ◌*◌, Bool, true, false, List, [], ◌++◌, codes, Option}
 use Rattle.std.specs.Prelude.{Some}
-use Rattle.std.specs.Prelude.{None, Result, Ok, Err}
+use Rattle.std.specs.Prelude.{None, Ok, Err}
 use Rattle.bn_types.specs.declared.record.Record.{Record}
 use Rattle.bn_types.specs.declared.status.Status.TheVariants.{ChipFault, DeskFault, Store}
 use Rattle.bn_types.specs.declared.status.Status.TheVariants.{VaultFault, Words}

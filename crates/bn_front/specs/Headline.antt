@@ -12,7 +12,7 @@ use Rattle.bn_types.specs.declared.status.Status.TheVariants.{DeskFault, Memory,
 use Rattle.bn_types.specs.declared.status.Status.TheVariants.{ChipFault, VaultFault}
 use Rattle.bn_edge.specs.Accounts.{ChipAccount, DeskAccount, SinkAccount, VaultAccount}
 use Rattle.bn_edge.specs.Areas.{area_at}
-use Rattle.bn_edge.specs.Counts.{CanCount, IsToldBy, Rises, Stays}
+use Rattle.bn_edge.specs.Counts.{CanCount, IsToldBy, Stays}
 use Rattle.bn_edge.specs.Written.{Writes, WritesFront}
 use Rattle.bn_edge.specs.declared.area.Area.{Area}
 use Rattle.bn_model.specs.BlankingLaws.{HidesSecrets, RestsAfterEach, RestsBeforeEach}

@@ -1,5 +1,5 @@
 -- What the readers of a run's files answer: a value or a refusal, as the definitions have it.
-use Rattle.std.specs.Prelude.{◌≡◌, ◌≢◌, ℕ, ◌%◌, ◌*◌, Bool, true, false, List, [], take, length}
+use Rattle.std.specs.Prelude.{◌≡◌, ◌≢◌, ℕ, ◌%◌, ◌*◌, Bool, true, false, List, take, length}
 use Rattle.std.specs.Prelude.{Option, Some}
 use Rattle.std.specs.Prelude.{None, Result, Ok, Err, IsSomeAnd, bytes_eq}
 use Rattle.bn_edge.specs.declared.desk_fault.DeskFault.{DeskFault}

@@ -1,5 +1,5 @@
 -- What is known of the store, a vault and a chip, and what a call leaves of it.
-use Rattle.std.specs.Prelude.{◌≡◌, ◌≢◌, ℕ, Bool, true, false, List, Option, Some}
+use Rattle.std.specs.Prelude.{◌≡◌, ◌≢◌, Bool, true, false, List, Some}
 use Rattle.sha2.specs.Sha256.{sha256}
 use Rattle.bn_edge.specs.Accounts.{ChipAccount, VaultAccount}
 use Rattle.bn_edge.specs.Areas.{Areas}

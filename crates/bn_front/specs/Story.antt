@@ -1,13 +1,13 @@
 -- The whole story of a call, by cases on its status: its promise follows from it.
 use Rattle.std.specs.Prelude.{◌≡◌, ◌≢◌, ◌⊎◌, ℕ, Bool, true, false, List, ◌++◌, bytes_eq, codes}
-use Rattle.std.specs.Prelude.{Option, Some, None, Result, Ok, Err}
+use Rattle.std.specs.Prelude.{Option, Some, None, Ok, Err}
 use Rattle.hex.specs.Hex.{encode_lower}
 use Rattle.sha2.specs.Sha256.{sha256}
 use Rattle.bn_types.specs.declared.digest.Digest.{Digest}
 use Rattle.bn_types.specs.declared.record.Record.{Record}
 use Rattle.bn_types.specs.declared.status.Status.{Status}
 use Rattle.bn_types.specs.declared.status.Status.TheVariants as answer
-use Rattle.bn_edge.specs.Accounts.{DeskAccount, SinkAccount}
+use Rattle.bn_edge.specs.Accounts.{SinkAccount}
 use Rattle.bn_edge.specs.Counts.{Rises, Stays}
 use Rattle.bn_edge.specs.Written.{Writes, WritesFront}
 use Rattle.bn_edge.specs.declared.area.Area.{Area}
@@ -30,7 +30,7 @@ use Rattle.bn_front.specs.declared.words_error.WordsError.{WordsError}
 use Rattle.bn_front.specs.declared.words_error.WordsError.TheVariants as error
 use Rattle.bn_front.specs.Built.{Task}
 use Rattle.bn_front.specs.Due.{Device, Due, IsDue, TheChip, TheVault, act_failed, bad_store}
-use Rattle.bn_front.specs.Due.{desk_failed, due_text, ended, generated, missing_line, no_command}
+use Rattle.bn_front.specs.Due.{desk_failed, ended, generated, missing_line, no_command}
 use Rattle.bn_front.specs.Due.{unread, unwritten}
 use Rattle.bn_front.specs.Headline.{CountsStay, FailsWithin, IsAnswer, Outside}
 use Rattle.bn_front.specs.Reading.{start_with}

@@ -1,4 +1,4 @@
-use Rattle.std.proofs.Common.{◌≡◌, ◌+◌, ◌++◌, true, false, ap, arith, refl, subst, sym, ◌∙◌}
+use Rattle.std.proofs.Common.{◌≡◌, ◌+◌, true, false, ap, arith, refl, subst, sym, ◌∙◌}
 use Rattle.bn_gen.specs.Tallies.{tally_of}
 use Rattle.bn_machine.proofs.Runs.{drawn_fits, drawn_is, drawn_more}
 use Rattle.bn_model.specs.Scripts.{after_events}

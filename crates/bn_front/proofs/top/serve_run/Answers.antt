@@ -1,4 +1,3 @@
-use Rattle.std.proofs.Common.{refl, sym}
 use Rattle.bn_front.specs.Headline.{outside}
 use Rattle.bn_front.specs.Meant.{own_meant}
 use Rattle.bn_front.specs.Stored.{store_of}

@@ -1,5 +1,4 @@
-use Rattle.std.proofs.Common.{◌≡◌, ◌++◌, ◌∙◌, List, ℕ, ap, codes, subst}
-use Rattle.hex.specs.Hex.{encode_lower}
+use Rattle.std.proofs.Common.{◌≡◌, ◌++◌, ◌∙◌, List, ℕ, ap, subst}
 use Rattle.bn_front.specs.Due.{bad_store}
 use Rattle.bn_front.specs.Story.{Answers, digests_line}
 use Rattle.bn_front.proofs.unopened.say_mismatch.Goals as goal
