@@ -121,7 +121,6 @@ fn each_status_has_its_code(rt: HostRuntime) {
         (Status::DeskFault, 9),
         (Status::VaultFault, 10),
         (Status::ChipFault, 11),
-        (Status::Unbuilt, 12),
         (Status::Memory, 71),
     ] {
         assert_eq!(rt; status.code(), code, "of {status:?}");

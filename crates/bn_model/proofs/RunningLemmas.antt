@@ -2,10 +2,10 @@
 use Rattle.std.proofs.Common.{◌≡◌, Bool, true, false, List, [], ◌∷◌, ◌++◌, Option, refl, ap, ◌∙◌}
 use Rattle.std.proofs.Common.{sym}
 use Rattle.std.proofs.lemmas.List.{append_assoc}
-use Rattle.bn_types.specs.declared.ending.Ending.TheVariants.{Shutdown, Limit, Unbuilt}
+use Rattle.bn_types.specs.declared.ending.Ending.TheVariants.{Shutdown, Limit}
 use Rattle.bn_types.specs.declared.event.Event.{Event}
 use Rattle.bn_types.specs.declared.line.Line.{Line}
-use Rattle.bn_model.specs.Running.{Blind, Built, Course, Run, course, onward, run, state_before}
+use Rattle.bn_model.specs.Running.{Blind, Course, Run, course, onward, run, state_before}
 use Rattle.bn_model.specs.Running.{unless_off}
 use Rattle.bn_model.specs.State.{State}
 use Rattle.bn_model.specs.Stepping.{step, lines}
@@ -13,49 +13,27 @@ use Rattle.bn_model.specs.Stepping.{step, lines}
 -- ---- a course
 
 -- a state that is off makes no events
-pub course_off : (is_built : Built) (blind : Option Blind) (s : State) (es : List Event)
-    → s.off ≡ true → course is_built blind s es ≡ record { told = []; ending = Shutdown; last = s }
+pub course_off : (blind : Option Blind) (s : State) (es : List Event)
+    → s.off ≡ true → course blind s es ≡ record { told = []; ending = Shutdown; last = s }
 unfolding course
-course_off is_built blind s [] e = rw e refl
-course_off is_built blind s (event ∷ es) e = rw e refl
+course_off blind s [] e = rw e refl
+course_off blind s (event ∷ es) e = rw e refl
 
 -- no events
-pub course_none : (is_built : Built) (blind : Option Blind) (s : State) → s.off ≡ false
-    → course is_built blind s [] ≡ record { told = []; ending = Limit; last = s }
+pub course_none : (blind : Option Blind) (s : State) → s.off ≡ false
+    → course blind s [] ≡ record { told = []; ending = Limit; last = s }
 unfolding course
-course_none is_built blind s e = rw e refl
+course_none blind s e = rw e refl
 
--- a run that goes on after an event, if it is built
-abbrev made_if : Built → Option Blind → State → Event → List Event → Bool → Course
-made_if is_built blind before e es built =
-    onward built before (lines before e) (course is_built blind (step before e) es)
-
-unless_on : (is_built : Built) (blind : Option Blind) (s : State) (e : Event) (es : List Event)
-    → s.off ≡ false
-    → course is_built blind s (e ∷ es)
-    ≡ made_if is_built blind (state_before blind s) e es (is_built (state_before blind s) e)
-unfolding course
-unless_on is_built blind s e es on =
-    let before : State = state_before blind s in
-    ap (λ off. unless_off off s (made_if is_built blind before e es (is_built before e))) on
-
--- an event that isn't built ends the run before it
-pub course_unbuilt : (is_built : Built) (blind : Option Blind) (s : State) (e : Event)
-    (es : List Event) → s.off ≡ false → is_built (state_before blind s) e ≡ false
-    → course is_built blind s (e ∷ es)
-    ≡ record { told = []; ending = Unbuilt; last = state_before blind s }
-course_unbuilt is_built blind s e es on built = unless_on is_built blind s e es on
-    ∙ ap (made_if is_built blind (state_before blind s) e es) built
-
--- a built event, and the run of the others
-pub course_built : (is_built : Built) (blind : Option Blind) (s : State) (e : Event)
-    (es : List Event) → s.off ≡ false → is_built (state_before blind s) e ≡ true
-    → course is_built blind s (e ∷ es)
+-- an event, and the course of the others
+pub course_on : (blind : Option Blind) (s : State) (e : Event) (es : List Event) → s.off ≡ false
+    → course blind s (e ∷ es)
     ≡ (let before = state_before blind s in
-    let rest = course is_built blind (step before e) es in
-    record rest { told = lines before e ++ rest.told })
-course_built is_built blind s e es on built = unless_on is_built blind s e es on
-    ∙ ap (made_if is_built blind (state_before blind s) e es) built
+    onward (lines before e) (course blind (step before e) es))
+unfolding course
+course_on blind s e es on =
+    let before : State = state_before blind s in
+    ap (λ off. unless_off off s (onward (lines before e) (course blind (step before e) es))) on
 
 -- ---- runs of some events
 

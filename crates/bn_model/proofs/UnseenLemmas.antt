@@ -14,12 +14,12 @@ use Rattle.bn_types.specs.declared.line.Line.TheVariants.{End}
 use Rattle.bn_types.specs.declared.status.Status.{Status}
 use Rattle.bn_types.specs.declared.status.Status.TheVariants as status
 use Rattle.bn_model.specs.Blanking.{blank, rests}
-use Rattle.bn_model.specs.BlankingLaws.{AllFit, IgnoresSecrets, RestsAfterEach, RestsBeforeEach}
+use Rattle.bn_model.specs.BlankingLaws.{AllFit, RestsAfterEach, RestsBeforeEach}
 use Rattle.bn_model.specs.BlankingLaws.{ZeroingIsUnseen}
 use Rattle.bn_model.specs.Owners.{is_live}
 use Rattle.bn_model.specs.Reporting.{Report, closing, public_digest, report_of_course}
 use Rattle.bn_model.specs.Rows.{owners}
-use Rattle.bn_model.specs.Running.{Blind, Built, Course, Reaches, blank_when, course, onward}
+use Rattle.bn_model.specs.Running.{Blind, Course, Reaches, blank_when, course, onward}
 use Rattle.bn_model.specs.Running.{state_before, unless_off}
 use Rattle.bn_model.specs.Soundness.{IsSound}
 use Rattle.bn_model.specs.SoundnessLaws.{KeepsSound}
@@ -29,7 +29,7 @@ use Rattle.bn_model.specs.Stepping.{Fits, lines, step}
 use Rattle.bn_model.proofs.BeforeLemmas.{clock-blank}
 use Rattle.bn_model.proofs.BlankLemmas.{blank-dead, blank-lines, blank-rests}
 use Rattle.bn_model.proofs.BlankPages.{digest-blank}
-use Rattle.bn_model.proofs.RunningLemmas.{course_built, course_none, course_off, course_unbuilt}
+use Rattle.bn_model.proofs.RunningLemmas.{course_none, course_off, course_on}
 use Rattle.bn_model.proofs.SteppingLemmas.{clock_after}
 use Rattle.bn_model.proofs.ZeroingLemmas.{any-step, live-below, step-next, step-off}
 
@@ -52,7 +52,6 @@ end-blank answer finish m s =
 closing-blank : (reason : Ending) (m : ℕ) (s : State) → closing reason (blank m s) ≡ closing reason s
 closing-blank ending.Shutdown m s = end-blank status.Ended Shutdown m s
 closing-blank ending.Limit m s = end-blank status.Limit Limit m s
-closing-blank ending.Unbuilt m s = refl
 
 -- ---- courses that are alike
 
@@ -67,12 +66,9 @@ alike-by {condition} one other first second is_one is_other alike =
     subst (λ (c : Course). IsAlike condition c other) (sym is_one)
     (subst (λ (c : Course). IsAlike condition first c) (sym is_other) alike)
 
-abbrev told_before : List Line → Course → Course
-told_before told rest = record rest { told = told ++ rest.told }
-
 alike-after : {condition later : Type 0} (told also : List Line) (one other : Course)
     → told ≡ also → (condition → later) → IsAlike later one other
-    → IsAlike condition (told_before told one) (told_before also other)
+    → IsAlike condition (onward told one) (onward also other)
 alike-after told also one other same holds alike = record {
   told = ap₂ (λ (a b : List Line). a ++ b) same alike.told;
   close = λ condition. alike.close (holds condition);
@@ -86,23 +82,22 @@ before-apart blind s apart =
     ap (λ (b : Bool). blank_when b blind.blinded.0 s) (ne_eqb s.clock blind.event apart)
 
 -- after that event blinding does nothing
-course-later : (is_built : Built) (blind : Blind) (s : State) (events : List Event)
+course-later : (blind : Blind) (s : State) (events : List Event)
     → blind.event < s.clock
-    → course is_built (Some blind) s events ≡ course is_built None s events
+    → course (Some blind) s events ≡ course None s events
 unfolding course
-course-later is_built blind s [] past = refl
-course-later is_built blind s (event ∷ events) past =
+course-later blind s [] past = refl
+course-later blind s (event ∷ events) past =
     let count : (step s event).clock ≡ s.clock + 1 = clock_after s event in
     ap (λ (t : State). unless_off s.off s
-    (onward (is_built t event) t (lines t event)
-    (course is_built (Some blind) (step t event) events)))
+    (onward (lines t event)
+    (course (Some blind) (step t event) events)))
     (before-apart blind s (λ is. omega arith))
     ∙ ap (λ (rest : Course). unless_off s.off s
-    (onward (is_built s event) s (lines s event) rest))
-    (course-later is_built blind (step s event) events (omega arith))
+    (onward (lines s event) rest))
+    (course-later blind (step s event) events (omega arith))
 
-module _ (keeps : KeepsSound) (is_built : Built) (ignores : IgnoresSecrets is_built)
-    (blind : Blind) where
+module _ (keeps : KeepsSound) (blind : Blind) where
   abbrev m : ℕ
   m = blind.blinded.0
 
@@ -126,55 +121,41 @@ module _ (keeps : KeepsSound) (is_built : Built) (ignores : IgnoresSecrets is_bu
     same = λ after. any-step m s event fits sound below rest after;
   }
 
-  -- an event from a state, and from one that tells the same and is built alike
+  -- an event from a state, and from one that tells the same
   one-event : {condition later : Type 0} (s t u : State) (event : Event) (events : List Event)
       → s.off ≡ false → t.off ≡ false → state_before (Some blind) t ≡ u
-      → is_built u event ≡ is_built s event → lines u event ≡ lines s event → (condition → later)
-      → IsAlike later (course is_built (Some blind) (step u event) events)
-      (course is_built None (step s event) events)
-      → IsAlike condition (course is_built (Some blind) t (event ∷ events))
-      (course is_built None s (event ∷ events))
-  one-event {condition} {later} s t u event events on on_other before built told holds alike =
-      by_built (is_built s event) refl
-    where
-      same : is_built (state_before (Some blind) t) event ≡ is_built s event
-      same = ap (λ (v : State). is_built v event) before ∙ built
-
-      by_built : (b : Bool) → is_built s event ≡ b
-          → IsAlike condition (course is_built (Some blind) t (event ∷ events))
-          (course is_built None s (event ∷ events))
-      by_built false is =
-          alike-by _ _ _ _
-          (course_unbuilt is_built (Some blind) t event events on_other (same ∙ is))
-          (course_unbuilt is_built None s event events on is)
-          (record { told = refl; close = λ condition. refl })
-      by_built true is =
-          alike-by _ _ _ _
-          (course_built is_built (Some blind) t event events on_other (same ∙ is)
-          ∙ ap (λ (v : State).
-          told_before (lines v event) (course is_built (Some blind) (step v event) events)) before)
-          (course_built is_built None s event events on is)
-          (alike-after (lines u event) (lines s event) _ _ told holds alike)
+      → lines u event ≡ lines s event → (condition → later)
+      → IsAlike later (course (Some blind) (step u event) events)
+      (course None (step s event) events)
+      → IsAlike condition (course (Some blind) t (event ∷ events))
+      (course None s (event ∷ events))
+  one-event {condition} {later} s t u event events on on_other before told holds alike =
+      alike-by _ _ _ _
+      (course_on (Some blind) t event events on_other
+      ∙ ap (λ (v : State).
+      onward (lines v event) (course (Some blind) (step v event) events)) before)
+      (course_on None s event events on)
+      (alike-after (lines u event) (lines s event) _ _ told holds alike)
 
   -- the event of a state without the secrets
   blank-event : {condition later : Type 0} (s t : State) (event : Event) (events : List Event)
       → s.off ≡ false → t.off ≡ false → state_before (Some blind) t ≡ blank m s → Fits s event
       → IsSound s → rests m s ≡ true → (condition → later)
-      → IsAlike later (course is_built (Some blind) (step (blank m s) event) events)
-      (course is_built None (step s event) events)
-      → IsAlike condition (course is_built (Some blind) t (event ∷ events))
-      (course is_built None s (event ∷ events))
+      → IsAlike later (course (Some blind) (step (blank m s) event) events)
+      (course None (step s event) events)
+      → IsAlike condition (course (Some blind) t (event ∷ events))
+      (course None s (event ∷ events))
   blank-event s t event events on on_other before fits sound rest holds alike =
       one-event s t (blank m s) event events on on_other before
-      (ignores s event m fits sound rest) (blank-lines m s event fits sound rest) holds alike
+      (blank-lines m s event fits sound rest) holds alike
 
   off-alike : {condition : Type 0} (s t : State) (events : List Event) → IsOther s t
       → s.off ≡ true → (condition → rests m s ≡ true)
-      → IsAlike condition (course is_built (Some blind) t events) (course is_built None s events)
+      → IsAlike condition (course (Some blind) t events) (course None s events)
   off-alike s t events other off holds =
       alike-by _ _ _ _
-      (course_off is_built (Some blind) t events (other.off ∙ off))
-      (course_off is_built None s events off)
+      (course_off (Some blind) t events (other.off ∙ off))
+      (course_off None s events off)
       (record {
         told = refl;
         close = λ condition.
@@ -184,11 +165,11 @@ module _ (keeps : KeepsSound) (is_built : Built) (ignores : IgnoresSecrets is_bu
 
   limit-alike : {condition : Type 0} (s t : State) → IsOther s t
       → s.off ≡ false → (condition → rests m s ≡ true)
-      → IsAlike condition (course is_built (Some blind) t []) (course is_built None s [])
+      → IsAlike condition (course (Some blind) t []) (course None s [])
   limit-alike s t other on holds =
       alike-by _ _ _ _
-      (course_none is_built (Some blind) t (other.off ∙ on))
-      (course_none is_built None s on)
+      (course_none (Some blind) t (other.off ∙ on))
+      (course_none None s on)
       (record {
         told = refl;
         close = λ condition.
@@ -199,14 +180,14 @@ module _ (keeps : KeepsSound) (is_built : Built) (ignores : IgnoresSecrets is_bu
   -- after the event before which the secrets were zeroed
   tail : (s t : State) (events : List Event) → IsOther s t → blind.event < s.clock → m < s.next
       → IsSound s → AllFit None s events → RestsBeforeEach m blind.event s events
-      → IsAlike (RestsOnAndAfter s events) (course is_built (Some blind) t events)
-      (course is_built None s events)
+      → IsAlike (RestsOnAndAfter s events) (course (Some blind) t events)
+      (course None s events)
   unfolding Reaches
   tail s t [] other past below sound fit rest = by_off s.off refl
     where
       by_off : (b : Bool) → s.off ≡ b
-          → IsAlike (RestsOnAndAfter s []) (course is_built (Some blind) t [])
-          (course is_built None s [])
+          → IsAlike (RestsOnAndAfter s []) (course (Some blind) t [])
+          (course None s [])
       by_off true off = off-alike s t [] other off (λ holds. holds.0)
       by_off false on = limit-alike s t other on (λ holds. holds.0)
   tail s t (event ∷ events) other past below sound fit rest =
@@ -220,11 +201,11 @@ module _ (keeps : KeepsSound) (is_built : Built) (ignores : IgnoresSecrets is_bu
           → (IsOther (step s event) (step (blank m s) event)
           → RestsBeforeEach m blind.event (step s event) events
           → IsAlike (RestsOnAndAfter (step s event) events)
-          (course is_built (Some blind) (step (blank m s) event) events)
-          (course is_built None (step s event) events))
+          (course (Some blind) (step (blank m s) event) events)
+          (course None (step s event) events))
           → IsAlike (RestsOnAndAfter s (event ∷ events))
-          (course is_built (Some blind) t (event ∷ events))
-          (course is_built None s (event ∷ events))
+          (course (Some blind) t (event ∷ events))
+          (course None s (event ∷ events))
       by_off true off go = off-alike s t (event ∷ events) other off (λ holds. holds.0)
       by_off false on go =
           let here : rests m s ≡ true =
@@ -251,7 +232,7 @@ module _ (keeps : KeepsSound) (is_built : Built) (ignores : IgnoresSecrets is_bu
       → s.clock ≡ blind.event → IsSound s → AllFit None s (event ∷ events)
       → RestsBeforeEach m blind.event s (event ∷ events)
       → IsAlike (RestsAfterEach m blind.event s (event ∷ events))
-      (course is_built (Some blind) s (event ∷ events)) (course is_built None s (event ∷ events))
+      (course (Some blind) s (event ∷ events)) (course None s (event ∷ events))
   unfolding Reaches
   at-event s event events on here sound fit rest =
       blank-event s s event events on on
@@ -271,8 +252,8 @@ module _ (keeps : KeepsSound) (is_built : Built) (ignores : IgnoresSecrets is_bu
 
       by_life : (b : Bool) → is_live (owners s.rows) m ≡ b
           → IsAlike (RestsOnAndAfter (step s event) events)
-          (course is_built (Some blind) (step (blank m s) event) events)
-          (course is_built None (step s event) events)
+          (course (Some blind) (step (blank m s) event) events)
+          (course None (step s event) events)
       by_life true live =
           let below = live-below m s sound live in
           tail (step s event) (step (blank m s) event) events
@@ -281,16 +262,16 @@ module _ (keeps : KeepsSound) (is_built : Built) (ignores : IgnoresSecrets is_bu
           (λ before e reaches from. rest before e (on, inr reaches) from)
       by_life false dead =
           alike-by _ _ _ _
-          (ap (λ (t : State). course is_built (Some blind) (step t event) events)
+          (ap (λ (t : State). course (Some blind) (step t event) events)
           (blank-dead m s dead)
-          ∙ course-later is_built blind (step s event) events past)
+          ∙ course-later blind (step s event) events past)
           refl (record { told = refl; close = λ holds. refl })
 
   -- up to that event
   front : (s : State) (events : List Event) → s.clock ≤ blind.event
       → IsSound s → AllFit None s events → RestsBeforeEach m blind.event s events
-      → IsAlike (RestsAfterEach m blind.event s events) (course is_built (Some blind) s events)
-      (course is_built None s events)
+      → IsAlike (RestsAfterEach m blind.event s events) (course (Some blind) s events)
+      (course None s events)
   unfolding course Reaches
   front s [] soon sound fit rest = record { told = refl; close = λ holds. refl }
   front s (event ∷ events) soon sound fit rest =
@@ -301,17 +282,17 @@ module _ (keeps : KeepsSound) (is_built : Built) (ignores : IgnoresSecrets is_bu
           → ((step s event).clock ≤ blind.event
           → RestsBeforeEach m blind.event (step s event) events
           → IsAlike (RestsAfterEach m blind.event (step s event) events)
-          (course is_built (Some blind) (step s event) events)
-          (course is_built None (step s event) events))
+          (course (Some blind) (step s event) events)
+          (course None (step s event) events))
           → IsAlike (RestsAfterEach m blind.event s (event ∷ events))
-          (course is_built (Some blind) s (event ∷ events))
-          (course is_built None s (event ∷ events))
+          (course (Some blind) s (event ∷ events))
+          (course None s (event ∷ events))
       by_event true is on go =
           at-event s event events on (eqb-true s.clock blind.event is) sound fit rest
       by_event false is on go =
           let count = clock_after s event in
           let apart : s.clock ≡ blind.event → ⊥ = eqb-false s.clock blind.event is in
-          one-event s s s event events on on (before-apart blind s apart) refl refl
+          one-event s s s event events on on (before-apart blind s apart) refl
           (later-rests s event events on)
           (go (omega arith) (λ before e reaches from. rest before e (on, inr reaches) from))
 
@@ -319,14 +300,14 @@ module _ (keeps : KeepsSound) (is_built : Built) (ignores : IgnoresSecrets is_bu
           → ((step s event).clock ≤ blind.event
           → RestsBeforeEach m blind.event (step s event) events
           → IsAlike (RestsAfterEach m blind.event (step s event) events)
-          (course is_built (Some blind) (step s event) events)
-          (course is_built None (step s event) events))
+          (course (Some blind) (step s event) events)
+          (course None (step s event) events))
           → IsAlike (RestsAfterEach m blind.event s (event ∷ events))
-          (course is_built (Some blind) s (event ∷ events))
-          (course is_built None s (event ∷ events))
+          (course (Some blind) s (event ∷ events))
+          (course None s (event ∷ events))
       by_off true off go =
-          alike-by _ _ _ _ (course_off is_built (Some blind) s (event ∷ events) off)
-          (course_off is_built None s (event ∷ events) off)
+          alike-by _ _ _ _ (course_off (Some blind) s (event ∷ events) off)
+          (course_off None s (event ∷ events) off)
           (record { told = refl; close = λ holds. refl })
       by_off false on go = by_event (s.clock == blind.event) refl on go
 
@@ -338,6 +319,6 @@ same-report condition one other alike holds =
     alike.told (alike.close holds)
 
 pub unseen : KeepsSound → ZeroingIsUnseen
-unseen keeps is_built blind s events ignores fit sound soon rest =
-    let alike = front keeps is_built ignores blind s events soon sound fit rest in
+unseen keeps blind s events fit sound soon rest =
+    let alike = front keeps blind s events soon sound fit rest in
     (alike.told, λ after. same-report _ _ _ alike after)

@@ -6,7 +6,7 @@ use Rattle.bn_model.specs.Blanking.{blank, rests}
 use Rattle.bn_model.specs.Owners.{is_live, is_private_page}
 use Rattle.bn_model.specs.Reporting.{public_digest, report_of_course}
 use Rattle.bn_model.specs.Rows.{owners, row_of, saved_of}
-use Rattle.bn_model.specs.Running.{Blind, Built, ComesTo, Reaches, course, run}
+use Rattle.bn_model.specs.Running.{Blind, ComesTo, Reaches, course, run}
 use Rattle.bn_model.specs.Running.{state_before}
 use Rattle.bn_model.specs.Soundness.{IsSound}
 use Rattle.bn_model.specs.State.{State}
@@ -148,21 +148,15 @@ RestsAfterEach m from start events =
     (s : State) (event : Event) → Reaches None start events s event → from ≤ s.clock →
     rests m (step s event) ≡ true
 
--- whether an event is built doesn't depend on a resting module's secrets
-abbrev pub IgnoresSecrets : Built → Type 0
-IgnoresSecrets is_built =
-    (s : State) (event : Event) (m : ℕ) → Fits s event → IsSound s → rests m s ≡ true →
-    is_built (blank m s) event ≡ is_built s event
-
 -- Zeroing a module's secrets just before an event changes no line of a run in which the module
 -- rests before each event from there on; where it rests after each of them too, the whole report is
 -- the same, the digest and all.
 abbrev pub ZeroingIsUnseen : Type 0
 ZeroingIsUnseen =
-    (is_built : Built) (blind : Blind) (s : State) (events : List Event) →
-    IgnoresSecrets is_built → AllFit None s events → IsSound s → s.clock ≤ blind.event →
+    (blind : Blind) (s : State) (events : List Event) →
+    AllFit None s events → IsSound s → s.clock ≤ blind.event →
     RestsBeforeEach blind.blinded.0 blind.event s events →
-    ((course is_built (Some blind) s events).told ≡ (course is_built None s events).told) ×
+    ((course (Some blind) s events).told ≡ (course None s events).told) ×
     (RestsAfterEach blind.blinded.0 blind.event s events →
-    report_of_course (course is_built (Some blind) s events) ≡
-    report_of_course (course is_built None s events))
+    report_of_course (course (Some blind) s events) ≡
+    report_of_course (course None s events))

@@ -38,14 +38,10 @@ public_digest s = record { 0 = sha256 (flat_map bytes_if_free (visible (memory s
 abbrev pub end_line : State → Finish → List ℕ
 end_line s finish = spelling (End s.clock finish (public_digest s))
 
-abbrev pub unbuilt : Report
-unbuilt = record { status = status.Unbuilt; text = codes "unbuilt\n" }
-
 -- what ends a run, after its lines
 abbrev pub closing : Ending → State → Report
 closing ending.Shutdown s = record { status = status.Ended; text = end_line s Shutdown }
 closing ending.Limit s = record { status = status.Limit; text = end_line s Limit }
-closing ending.Unbuilt s = unbuilt
 
 abbrev pub report_of_course : Course → Report
 report_of_course c = let last = closing c.ending c.last in record last

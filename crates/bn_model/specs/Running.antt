@@ -1,9 +1,8 @@
--- A run of the flat machine: its events in order, up to the first that shuts the machine down and
--- up to before the first that isn't built.
+-- A run of the flat machine: its events in order, up to the first that shuts the machine down.
 use Rattle.std.specs.Prelude.{◌≡◌, ◌≢◌, ℕ, ◌==◌, ◌⊎◌, Bool, true, false, List, [], ◌∷◌}
 use Rattle.std.specs.Prelude.{◌++◌, Option, Some, None}
 use Rattle.bn_types.specs.declared.ending.Ending.{Ending}
-use Rattle.bn_types.specs.declared.ending.Ending.TheVariants.{Shutdown, Limit, Unbuilt}
+use Rattle.bn_types.specs.declared.ending.Ending.TheVariants.{Shutdown, Limit}
 use Rattle.bn_types.specs.declared.event.Event.{Event}
 use Rattle.bn_types.specs.declared.line.Line.{Line}
 use Rattle.bn_types.specs.declared.mod_id.ModId.{ModId}
@@ -48,34 +47,26 @@ run blind s (event ∷ events) =
 
 -- ---- a whole course
 
--- which events are built, of those that may come in a state
-abbrev pub Built : Type 0
-Built = State → Event → Bool
-
 -- the lines of a run, why it stopped, and the state that it left
 pub record Course : Type 0 where
   pub told : List Line
   pub ending : Ending
   pub last : State
 
--- one event and the run of the others: whether the event is built, the state before it, its lines,
--- and the state after it
-abbrev pub onward : Bool → State → List Line → Course → Course
-onward false before told rest = record { told = []; ending = Unbuilt; last = before }
-onward true before told rest = record rest { told = told ++ rest.told }
+-- the lines of an event and those of the events after it
+abbrev pub onward : List Line → Course → Course
+onward told rest = record rest { told = told ++ rest.told }
 
 -- a run that is off makes no events
 abbrev pub unless_off : Bool → State → Course → Course
 unless_off true s rest = record { told = []; ending = Shutdown; last = s }
 unless_off false s rest = rest
 
-unfoldable pub course : Built → Option Blind → State → List Event → Course
-course is_built blind s [] = unless_off s.off s (record { told = []; ending = Limit; last = s })
-course is_built blind s (event ∷ events) =
+unfoldable pub course : Option Blind → State → List Event → Course
+course blind s [] = unless_off s.off s (record { told = []; ending = Limit; last = s })
+course blind s (event ∷ events) =
     let before = state_before blind s in
-    unless_off s.off s
-    (onward (is_built before event) before (lines before event)
-    (course is_built blind (step before event) events))
+    unless_off s.off s (onward (lines before event) (course blind (step before event) events))
 
 -- ---- where a run comes
 

@@ -1,11 +1,12 @@
 -- What the whole program does, where no device fails: its status, the text that it writes, and
--- what the store holds afterwards, from its words, the files and the store. The module Reporting
--- is the part of it that is built so far.
+-- what the store holds afterwards, from its words, the files and the store.
 use Rattle.std.specs.Prelude.{ℕ, Bool, true, false, List, ◌++◌, codes, Option, Some, None, Result}
 use Rattle.std.specs.Prelude.{Ok, Err}
 use Rattle.bn_types.specs.declared.finish.Finish.{Finish}
 use Rattle.bn_types.specs.declared.finish.Finish.TheVariants as finish
 use Rattle.bn_types.specs.declared.record.Record.{Record}
+use Rattle.bn_types.specs.declared.status.Status.{Status}
+use Rattle.bn_types.specs.declared.status.Status.TheVariants as status
 use Rattle.bn_model.specs.CommandLines.{Gen, Name, Order, Run, RunOrder, all_names, order_among}
 use Rattle.bn_model.specs.Reporting.{Files, end_line}
 use Rattle.bn_model.specs.Running.{Course}
@@ -13,30 +14,8 @@ use Rattle.bn_model.specs.Generating.{made_of}
 use Rattle.bn_model.specs.Spelling.{text_of}
 use Rattle.bn_model.specs.Storing.{Storage, committed}
 use Rattle.bn_model.specs.Summaries.{generated_start, summary}
-use Rattle.bn_model.specs.WholeRuns.{BadImage, BadScript, BadStore, Refusal, Refused, Start}
-use Rattle.bn_model.specs.WholeRuns.{course_of, finish_of, start_of}
-use Rattle.bn_model.specs.WholeRuns as before
-
-pub data Status : Type 0 where
-  Ended : Status
-  Limit : Status
-  -- the words are no command line
-  Words : Status
-  -- the image or the script isn't there
-  NoFile : Status
-  Image : Status
-  Script : Status
-  Store : Status
-
--- the exit codes of the program (this project's own table)
-abbrev pub exit_code : Status → ℕ
-exit_code Ended = 0
-exit_code Words = 2
-exit_code Limit = 3
-exit_code NoFile = 4
-exit_code Image = 5
-exit_code Script = 6
-exit_code Store = 7
+use Rattle.bn_model.specs.WholeRuns.{BadImage, BadScript, BadStore, NoFile, Refusal, Refused}
+use Rattle.bn_model.specs.WholeRuns.{Start, course_of, finish_of, start_of}
 
 -- how a call ends, what it writes, and the store as it leaves it
 pub record Report : Type 0 where
@@ -47,14 +26,14 @@ pub record Report : Type 0 where
 -- ---- a run
 
 abbrev pub refusal_status : Refusal → Status
-refusal_status before.NoFile = NoFile
-refusal_status BadImage = Image
-refusal_status BadScript = Script
-refusal_status BadStore = Store
+refusal_status NoFile = status.NoFile
+refusal_status BadImage = status.Image
+refusal_status BadScript = status.Script
+refusal_status BadStore = status.Store
 
 abbrev pub finish_status : Finish → Status
-finish_status finish.Shutdown = Ended
-finish_status finish.Limit = Limit
+finish_status finish.Shutdown = status.Ended
+finish_status finish.Limit = status.Limit
 
 -- the last state's records are committed before the end line is written
 abbrev pub storage_after : (is_stored : Bool) → List Record → Storage → Storage
@@ -97,7 +76,7 @@ report_of_gen number storage =
 
 abbrev pub report_of_order : Option Order → Files → Storage → Report
 report_of_order None files storage =
-    record { status = Words; text = codes "words\n"; storage = storage }
+    record { status = status.Words; text = codes "words\n"; storage = storage }
 report_of_order (Some (Run order)) files storage = report_of_run order files storage
 report_of_order (Some (Gen number)) files storage = report_of_gen number storage
 

@@ -1,5 +1,5 @@
 -- A whole run: what its files and its store come to, which of them refuses it first, and else its
--- course, with every event built.
+-- course.
 use Rattle.std.specs.Prelude.{ℕ, ◌*◌, Bool, true, false, List, [], ◌++◌, codes, decimal, Option}
 use Rattle.std.specs.Prelude.{Some, None, Result, Ok, Err}
 use Rattle.bn_types.specs.declared.event.Event.{Event}
@@ -14,7 +14,7 @@ use Rattle.bn_model.specs.CommandLines.{RunOrder}
 use Rattle.bn_model.specs.Images as images
 use Rattle.bn_model.specs.Opening.{Image, opening}
 use Rattle.bn_model.specs.Reporting.{Files, fault_line}
-use Rattle.bn_model.specs.Running.{Blind, Built, Course, course}
+use Rattle.bn_model.specs.Running.{Blind, Course, course}
 use Rattle.bn_model.specs.Scripts.{Script, first_events, script_in, script_of}
 use Rattle.bn_model.specs.State.{State}
 use Rattle.bn_model.specs.Storing.{Storage, records_in}
@@ -110,12 +110,8 @@ start_of order files storage =
       blind = order.blind;
     }))))
 
--- every event is built
-abbrev pub always : Built
-always s event = true
-
 unfoldable pub course_of : Start → Course
-course_of start = course always start.blind start.state start.events
+course_of start = course start.blind start.state start.events
 
 abbrev pub finish_if : (off : Bool) → Finish
 finish_if true = Shutdown

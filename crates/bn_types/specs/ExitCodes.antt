@@ -3,8 +3,7 @@ use Rattle.std.specs.Prelude.{ℕ}
 use Rattle.bn_types.specs.declared.status.Status.{Status}
 use Rattle.bn_types.specs.declared.status.Status.TheVariants.{Ended, Words, Limit, NoFile, Image}
 use Rattle.bn_types.specs.declared.status.Status.TheVariants.{Script, Store, SinkFault, DeskFault}
-use Rattle.bn_types.specs.declared.status.Status.TheVariants.{VaultFault, ChipFault, Unbuilt}
-use Rattle.bn_types.specs.declared.status.Status.TheVariants.{Memory}
+use Rattle.bn_types.specs.declared.status.Status.TheVariants.{VaultFault, ChipFault, Memory}
 
 -- this project's own table; 71 is `EX_OSERR` of sysexits.h
 abbrev pub exit_code : Status → ℕ
@@ -19,5 +18,4 @@ exit_code SinkFault = 8
 exit_code DeskFault = 9
 exit_code VaultFault = 10
 exit_code ChipFault = 11
-exit_code Unbuilt = 12
 exit_code Memory = 71

@@ -5,6 +5,4 @@ pub enum Ending {
     Shutdown,
     /// The limit's events were made without shutdown.
     Limit,
-    /// The next turn needs a part that isn't built yet.
-    Unbuilt,
 }

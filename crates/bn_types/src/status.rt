@@ -26,8 +26,6 @@ pub enum Status {
     VaultFault,
     /// Reading or setting the register failed.
     ChipFault,
-    /// The words, the image or a turn need a part that isn't built yet.
-    Unbuilt,
     /// Memory ran out before the first event.
     Memory,
 }
@@ -49,7 +47,6 @@ impl Status {
             Status::DeskFault => 9,
             Status::VaultFault => 10,
             Status::ChipFault => 11,
-            Status::Unbuilt => 12,
             Status::Memory => 71,
         }
     }
