@@ -21,7 +21,6 @@ use Rattle.bn_model.specs.Running.{Blind, Course, course}
 use Rattle.bn_model.specs.State.{State}
 use Rattle.bn_model.specs.StoredImages.{Stored, image_of}
 use Rattle.bn_model.specs.Storing.{Storage, malformed_line}
-use Rattle.bn_model.specs.WholeRuns.{always}
 use Rattle.bn_machine.specs.Telling.{FinishesRun}
 use Rattle.bn_vault.specs.Committing as vault
 use Rattle.bn_vault.specs.Committing.{HasNoTwins}
@@ -159,7 +158,7 @@ failure_counts commit.Chip s n vault chip = record { vault = vault; chip = chip 
 
 module _ (blind : Option Blind) (state : State) (events : List Event) where
   abbrev run : Course
-  run = course always blind state events
+  run = course blind state events
 
   closing_is : (reason : Ending) (last : State) (old mid : SinkAccount)
       → FinishesRun run reason last old mid → closing reason last ≡ ended run

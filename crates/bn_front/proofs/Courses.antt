@@ -1,5 +1,5 @@
--- How courses end of which every event is built.
-use Rattle.std.proofs.Common.{◌≡◌, ◌≢◌, ℕ, Bool, true, false, List, [], ◌∷◌, Option, refl, sym, ap}
+-- How courses end.
+use Rattle.std.proofs.Common.{◌≡◌, ℕ, Bool, true, false, List, [], ◌∷◌, Option, refl, sym, ap}
 use Rattle.std.proofs.Common.{subst}
 use Rattle.std.proofs.Common.{◌∙◌}
 use Rattle.bn_types.specs.declared.ending.Ending.{Ending}
@@ -14,9 +14,8 @@ use Rattle.bn_model.specs.Running.{Blind, Course, course, state_before}
 use Rattle.bn_model.specs.State.{State}
 use Rattle.bn_model.specs.Stepping.{step}
 use Rattle.bn_model.specs.WholeReports.{finish_status}
-use Rattle.bn_model.specs.WholeRuns.{always, finish_if, finish_of}
-use Rattle.bn_model.proofs.RunningLemmas.{course_built, course_none, course_off}
-use Rattle.bn_front.specs.Built.{status_meant}
+use Rattle.bn_model.specs.WholeRuns.{finish_if, finish_of}
+use Rattle.bn_model.proofs.RunningLemmas.{course_none, course_off, course_on}
 use Rattle.bn_front.specs.Due.{ended, generated, generated_run}
 
 abbrev ending_at : Finish → Ending
@@ -33,34 +32,34 @@ at-off : (b : Bool) (s : State) → s.off ≡ b
     (finish_of (record { told = []; ending = ending_at (finish_if b); last = s }))
 at-off b s e = sym (ap (λ (off : Bool). ending_at (finish_if off)) e)
 
-always-ends : (blind : Option Blind) (s : State) (events : List Event)
-    → EndsAsItStands (course always blind s events)
-always-ends blind s [] = by_off s.off refl where
-  by_off : (b : Bool) → s.off ≡ b → EndsAsItStands (course always blind s [])
+ends-so : (blind : Option Blind) (s : State) (events : List Event)
+    → EndsAsItStands (course blind s events)
+ends-so blind s [] = by_off s.off refl where
+  by_off : (b : Bool) → s.off ≡ b → EndsAsItStands (course blind s [])
   by_off true off =
-      subst EndsAsItStands (sym (course_off always blind s [] off)) (at-off true s off)
+      subst EndsAsItStands (sym (course_off blind s [] off)) (at-off true s off)
   by_off false on =
-      subst EndsAsItStands (sym (course_none always blind s on)) (at-off false s on)
-always-ends blind s (event ∷ events) =
-    by_off s.off refl (always-ends blind (step (state_before blind s) event) events)
+      subst EndsAsItStands (sym (course_none blind s on)) (at-off false s on)
+ends-so blind s (event ∷ events) =
+    by_off s.off refl (ends-so blind (step (state_before blind s) event) events)
   where
     by_off : (b : Bool) → s.off ≡ b
-        → EndsAsItStands (course always blind (step (state_before blind s) event) events)
-        → EndsAsItStands (course always blind s (event ∷ events))
+        → EndsAsItStands (course blind (step (state_before blind s) event) events)
+        → EndsAsItStands (course blind s (event ∷ events))
     by_off true off rest =
-        subst EndsAsItStands (sym (course_off always blind s (event ∷ events) off))
+        subst EndsAsItStands (sym (course_off blind s (event ∷ events) off))
         (at-off true s off)
     by_off false on rest =
-        subst EndsAsItStands (sym (course_built always blind s event events on refl)) rest
+        subst EndsAsItStands (sym (course_on blind s event events on)) rest
 
 -- what closes it is its end line
 pub closing-ended : (blind : Option Blind) (s : State) (events : List Event)
-    → closing (course always blind s events).ending (course always blind s events).last
-    ≡ ended (course always blind s events)
-closing-ended blind s events = go (course always blind s events) (always-ends blind s events)
+    → closing (course blind s events).ending (course blind s events).last
+    ≡ ended (course blind s events)
+closing-ended blind s events = go (course blind s events) (ends-so blind s events)
   where
     by_finish : (f : Finish) (last : State) → ◌≡◌ {A = Report} (closing (ending_at f) last)
-        (record { status = status_meant (finish_status f); text = end_line last f })
+        (record { status = finish_status f; text = end_line last f })
     by_finish finish.Shutdown last = refl
     by_finish finish.Limit last = refl
 
@@ -68,23 +67,13 @@ closing-ended blind s events = go (course always blind s events) (always-ends bl
     go run e = ap (λ (reason : Ending). closing reason run.last) e
         ∙ by_finish (finish_of run) run.last
 
--- and nothing is unbuilt
-pub never-unbuilt : (blind : Option Blind) (s : State) (events : List Event)
-    → (course always blind s events).ending ≢ ending.Unbuilt
-never-unbuilt blind s events e =
-    by_finish (finish_of (course always blind s events)) (sym (always-ends blind s events) ∙ e)
-  where
-    by_finish : (f : Finish) → ending_at f ≢ ending.Unbuilt
-    by_finish finish.Shutdown = λ is. cc
-    by_finish finish.Limit = λ is. cc
-
 -- ---- their statuses
 
 -- a run's end line has one of two
 pub ended_by : (run : Course) (P : Status → Type 0) → P answer.Ended → P answer.Limit
     → P (ended run).status
 ended_by run P one other = by_finish (finish_of run) where
-  by_finish : (f : Finish) → P (status_meant (finish_status f))
+  by_finish : (f : Finish) → P (finish_status f)
   by_finish finish.Shutdown = one
   by_finish finish.Limit = other
 

@@ -21,8 +21,8 @@ use Rattle.bn_model.specs.Stepping.{trap_lines}
 use Rattle.bn_model.specs.Deciding.{decision_of}
 use Rattle.bn_model.specs.Walking.{access_fault}
 use Rattle.bn_model.specs.Summaries.{generated_start, raw_image}
-use Rattle.bn_model.specs.WholeRuns.{always, course_of}
-use Rattle.bn_model.proofs.RunningLemmas.{course_built, course_none, course_off}
+use Rattle.bn_model.specs.WholeRuns.{course_of}
+use Rattle.bn_model.proofs.RunningLemmas.{course_none, course_off, course_on}
 use Rattle.bn_model.proofs.ScriptLemmas.{after-more}
 use Rattle.bn_model.proofs.SteppingLemmas.{clock_after, harts_after}
 use Rattle.bn_front.specs.Due.{generated_run}
@@ -65,7 +65,7 @@ abbrev pub events_left : Script → (limit made : ℕ) → List Event
 events_left all limit made = first_events (limit - made) (after_events made all)
 
 abbrev pub course_from : State → List Event → Course
-course_from s events = course always None s events
+course_from s events = course None s events
 
 -- a course after some lines
 abbrev pub after_lines : List Line → Course → Course
@@ -126,7 +126,7 @@ module _ (start now : State) (all : Script) (limit made : ℕ) (tally : List ℕ
       let rest : Course = course_from next left in
       c.whole
       ∙ ap (λ (events : List Event). after_lines c.told (course_from now events)) first_left
-      ∙ ap (after_lines c.told) (course_built always None now event left c.on refl)
+      ∙ ap (after_lines c.told) (course_on None now event left c.on)
       ∙ ap (λ (told : List Line). record rest { told = told })
       (sym (append_assoc c.told (lines now event) rest.told))
 
@@ -155,12 +155,12 @@ module _ (start now : State) (all : Script) (limit made : ℕ) (tally : List ℕ
   -- it shut the machine down
   pub last_off : next.off ≡ true → next ≡ (course_from start (first_events limit all)).last
   last_off off = sym (ap (λ (run : Course). run.last)
-      (whole_more ∙ ap (after_lines told_more) (course_off always None next left off)))
+      (whole_more ∙ ap (after_lines told_more) (course_off None next left off)))
 
   pub told_off : next.off ≡ true
       → told_more ≡ (course_from start (first_events limit all)).told
   told_off off = sym (append-nil told_more) ∙ sym (ap (λ (run : Course). run.told)
-      (whole_more ∙ ap (after_lines told_more) (course_off always None next left off)))
+      (whole_more ∙ ap (after_lines told_more) (course_off None next left off)))
 
 -- all events were made
 module _ (start now : State) (all : Script) (limit made : ℕ) (tally : List ℕ)
@@ -175,11 +175,11 @@ module _ (start now : State) (all : Script) (limit made : ℕ) (tally : List ℕ
 
   pub last_limit : now ≡ (course_from start (first_events limit all)).last
   last_limit = sym (ap (λ (run : Course). run.last)
-      (whole_limit ∙ ap (after_lines c.told) (course_none always None now c.on)))
+      (whole_limit ∙ ap (after_lines c.told) (course_none None now c.on)))
 
   pub told_limit : c.told ≡ (course_from start (first_events limit all)).told
   told_limit = sym (append-nil c.told) ∙ sym (ap (λ (run : Course). run.told)
-      (whole_limit ∙ ap (after_lines c.told) (course_none always None now c.on)))
+      (whole_limit ∙ ap (after_lines c.told) (course_none None now c.on)))
 
 -- ---- where it begins
 

@@ -12,7 +12,7 @@ use Rattle.bn_front.specs.declared.item.Item.{Item}
 use Rattle.bn_front.specs.declared.option_name.OptionName.{OptionName}
 use Rattle.bn_front.specs.declared.option_name.OptionName.TheVariants as option
 use Rattle.bn_front.specs.Items.{item_by, item_meant, items_meant, name_meant}
-use Rattle.bn_front.specs.Built.{Running, Task, task_by, task_of}
+use Rattle.bn_front.specs.Tasks.{Running, Task, task_by, task_of}
 
 -- ---- pages stay in their frames
 

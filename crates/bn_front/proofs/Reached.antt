@@ -14,7 +14,7 @@ use Rattle.bn_types.specs.declared.image_fault.ImageFault.{ImageFault}
 use Rattle.bn_types.specs.declared.line.Line.{Line}
 use Rattle.bn_types.specs.declared.record.Record.{Record}
 use Rattle.bn_types.specs.declared.script_fault.ScriptFault.{ScriptFault}
-use Rattle.bn_model.specs.BlankingLaws.{AllFit, HidesSecrets, IgnoresSecrets, after}
+use Rattle.bn_model.specs.BlankingLaws.{AllFit, HidesSecrets, after}
 use Rattle.bn_model.specs.CommandLines.{RunOrder}
 use Rattle.bn_model.specs.Images as images
 use Rattle.bn_model.specs.Images.{image_of}
@@ -30,7 +30,7 @@ use Rattle.bn_model.specs.State.{State, resting_hart}
 use Rattle.bn_model.specs.Stepping.{Fits, step}
 use Rattle.bn_model.specs.Storing.{Storage}
 use Rattle.bn_model.specs.WholeRuns as whole
-use Rattle.bn_model.specs.WholeRuns.{Refused, Start, always, image_in, image_loaded, records_for}
+use Rattle.bn_model.specs.WholeRuns.{Refused, Start, image_in, image_loaded, records_for}
 use Rattle.bn_model.specs.WholeRuns.{script_file, script_for, script_read}
 use Rattle.bn_model.proofs.BeforeLemmas.{sound-before}
 use Rattle.bn_model.proofs.ScriptLemmas.{first-events-fit, no-commands-orderly, script-orderly}
@@ -38,8 +38,8 @@ use Rattle.bn_model.proofs.SoundKept.{sound-kept}
 use Rattle.bn_model.proofs.SoundOpening.{opening-sound}
 use Rattle.bn_model.proofs.UnseenLemmas.{unseen}
 use Rattle.bn_model.proofs.ZeroingLemmas.{hides-in-run}
-use Rattle.bn_front.specs.Built.{Generating, NoTask, Report, Running, Task, has_store, report_of}
-use Rattle.bn_front.specs.Built.{report_of_task, task_of, told_as, uses_store}
+use Rattle.bn_front.specs.Tasks.{Generating, NoTask, Running, Task, has_store, report_of}
+use Rattle.bn_front.specs.Tasks.{report_of_task, task_of, uses_store}
 use Rattle.bn_front.specs.Due.{ended}
 use Rattle.bn_front.specs.Headline.{AreBlinded, OpensTo, StandUnder, WriteAlike}
 use Rattle.bn_front.specs.Starts.{AreBytes, HoldBytes, MakesFrom, RunMakes, StoreBytes, if_begun}
@@ -295,10 +295,6 @@ hidden-secrets words files storage start bytes areas is =
     (hides-in-run sound-kept start.blind start.state start.events good.sound
     (good.fit start.blind)).0
 
--- every event is built
-built-alike : IgnoresSecrets always
-built-alike s event m fits sound rest = refl
-
 -- the report of a call that runs
 report-of-start : (words : List (List ℕ)) (files : Files) (storage : Storage) (start : Start)
     → start_of words files storage ≡ Some start
@@ -309,17 +305,17 @@ unfolding report_of
 report-of-start words files storage start e =
     let run = run_of_words words files storage start e in
     let is = ap (λ (task : Task). report_of_task task files storage) run.runs
-    ∙ ap told_as (run_reported run.order files storage start run.starts) in
+    ∙ run_reported run.order files storage start run.starts in
     (ap (λ (r : Report). r.status) is, ap (λ (r : Report). r.text) is)
 
--- a course of which every event is built, and what closes it
+-- a course, and what closes it
 course-is : (start : Start)
-    → whole.course_of start ≡ course always start.blind start.state start.events
+    → whole.course_of start ≡ course start.blind start.state start.events
 unfolding whole.course_of
 course-is start = refl
 
 closed-by : (start : Start)
-    → said.report_of_course (course always start.blind start.state start.events)
+    → said.report_of_course (course start.blind start.state start.events)
     ≡ record {
       status = (ended (whole.course_of start)).status;
       text = text_of (whole.course_of start).told ++ (ended (whole.course_of start)).text;
@@ -337,12 +333,12 @@ pub written-alike : (words others : List (List ℕ)) (files : Files) (storage : 
 written-alike words others files storage start blind bytes areas both =
     let good = good_start words files storage start bytes areas both.runs in
     let other : Start = record start { blind = Some blind } in
-    let plain : whole.course_of start ≡ course always None start.state start.events =
+    let plain : whole.course_of start ≡ course None start.state start.events =
     course-is start
-    ∙ ap (λ (b : Option Blind). course always b start.state start.events) both.plain in
+    ∙ ap (λ (b : Option Blind). course b start.state start.events) both.plain in
     let one_is = report-of-start words files storage start both.runs in
     let other_is = report-of-start others files storage other both.blinded in
-    let alike = unseen sound-kept always blind start.state start.events built-alike
+    let alike = unseen sound-kept blind start.state start.events
     (good.fit None) good.sound
     (let begins = good.begins in omega arith) in
     record {
@@ -357,10 +353,10 @@ written-alike words others files storage start blind bytes areas both =
             ∙ sym (ap (λ (c : Course). c.told) plain));
       };
       whole = λ before after.
-          let same : said.report_of_course (course always start.blind start.state start.events)
-          ≡ said.report_of_course (course always (Some blind) start.state start.events) =
+          let same : said.report_of_course (course start.blind start.state start.events)
+          ≡ said.report_of_course (course (Some blind) start.state start.events) =
           ap (λ (b : Option Blind).
-          said.report_of_course (course always b start.state start.events))
+          said.report_of_course (course b start.state start.events))
           both.plain ∙ sym ((alike before).1 after) in
           let is = sym (closed-by start) ∙ same ∙ closed-by other in (
             one_is.0 ∙ ap (λ (r : said.Report). r.status) is ∙ sym other_is.0,

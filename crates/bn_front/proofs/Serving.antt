@@ -20,14 +20,14 @@ use Rattle.bn_model.specs.Spelling.{text_of}
 use Rattle.bn_model.specs.State.{State}
 use Rattle.bn_model.specs.Storing.{Storage, records_in}
 use Rattle.bn_model.specs.WholeReports.{finish_status}
-use Rattle.bn_model.specs.WholeRuns.{always, course_of, finish_of, records_found, records_for}
+use Rattle.bn_model.specs.WholeRuns.{course_of, finish_of, records_found, records_for}
 use Rattle.bn_front.specs.declared.inputs.Inputs.{Inputs}
 use Rattle.bn_front.specs.declared.refusal.Refusal.{Refusal}
 use Rattle.bn_front.specs.declared.refusal.Refusal.TheVariants as refusal
 use Rattle.bn_front.specs.declared.run_order.RunOrder as run_order
 use Rattle.bn_front.specs.declared.words_error.WordsError.{WordsError}
 use Rattle.bn_front.specs.declared.words_error.WordsError.TheVariants as error
-use Rattle.bn_front.specs.Built.{Generating, NoTask, Running, Task, status_meant, task_by, task_of}
+use Rattle.bn_front.specs.Tasks.{Generating, NoTask, Running, Task, task_by, task_of}
 use Rattle.bn_front.specs.Due.{AreAccepted, Begins, Device, Due, IsDue, OfCommit, OfDesk, OfFiles}
 use Rattle.bn_front.specs.Due.{OfOpening}
 use Rattle.bn_front.specs.Due.{OfRun, OfStore, OpensStore, StandsAlone, TheChip, TheVault}
@@ -296,7 +296,7 @@ module _ (desk later : DeskAccount) (store : StoreAccount) (sink end : SinkAccou
 ended_counts : (run : Course) (old new : Outside) → CountsStay old new
     → Counts (ended run).status old new
 ended_counts run old new stay = by_finish (finish_of run) where
-  by_finish : (f : Finish) → Counts (status_meant (finish_status f)) old new
+  by_finish : (f : Finish) → Counts (finish_status f) old new
   by_finish finish.Shutdown = record {
     missed = stay.missed;
     desk = stay.desk;
@@ -528,10 +528,10 @@ blind_same (Some pair) = refl
 -- a machine that begins where inputs and records do makes their course
 pub run_is : (order : run_order.RunOrder) (inputs : Inputs) (records : List Record) (state : State)
     → state ≡ (start_with (own_meant order) inputs records).state
-    → course always (blind_at order.blind) state (first_events order.steps inputs.script)
+    → course (blind_at order.blind) state (first_events order.steps inputs.script)
     ≡ course_of (start_with (own_meant order) inputs records)
 unfolding course_of
 run_is order inputs records state opens =
     ap₂ (λ (blind : Option Blind) (s : State).
-    course always blind s (first_events order.steps inputs.script))
+    course blind s (first_events order.steps inputs.script))
     (blind_same order.blind) opens

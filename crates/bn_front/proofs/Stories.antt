@@ -15,7 +15,7 @@ use Rattle.bn_model.specs.Running.{Course}
 use Rattle.bn_model.specs.State.{State}
 use Rattle.bn_model.specs.Storing.{Storage}
 use Rattle.bn_model.specs.WholeReports as whole
-use Rattle.bn_model.specs.WholeReports.{finish_status, refusal_status}
+use Rattle.bn_model.specs.WholeReports.{Report, finish_status, refusal_status}
 use Rattle.bn_model.specs.WholeRuns.{BadImage, BadScript, BadStore, NoFile, Refusal}
 use Rattle.bn_model.specs.WholeRuns.{records_for, records_found}
 use Rattle.bn_model.proofs.ChangeLemmas.{changes-are-touched}
@@ -25,8 +25,8 @@ use Rattle.sha2.specs.Sha256.{sha256}
 use Rattle.bn_edge.specs.Registers.{replaced}
 use Rattle.bn_model.specs.StoredImages.{image_of}
 use Rattle.bn_front.specs.declared.named_file.NamedFile.{NamedFile}
-use Rattle.bn_front.specs.Built.{Generating, NoTask, Report, Running, Task, has_store, report_of}
-use Rattle.bn_front.specs.Built.{report_of_task, status_meant, task_of, told_as, uses_store}
+use Rattle.bn_front.specs.Tasks.{Generating, NoTask, Running, Task, has_store, report_of}
+use Rattle.bn_front.specs.Tasks.{report_of_task, task_of, uses_store}
 use Rattle.bn_front.specs.Due.{AreTold, Begins, Device, Due, IsDue, IsOfCommit, IsOfFiles}
 use Rattle.bn_front.specs.Due.{IsOfOpening, IsOfRun, IsOfStore, OfCommit, OfDesk, OfFiles}
 use Rattle.bn_front.specs.Due.{OfOpening, OfRun, OfStore, ReadsFile, StandsAlone}
@@ -95,35 +95,31 @@ not_told A old new quiet told a =
 
 -- ---- what is due
 
--- the statuses of refusals for files
-abbrev refused_as : Refusal → Status
-refused_as why = status_meant (refusal_status why)
-
-not_ended : (why : Refusal) → EndsRun (refused_as why) → ⊥
+not_ended : (why : Refusal) → EndsRun (refusal_status why) → ⊥
 not_ended NoFile ends = ends
 not_ended BadImage ends = ends
 not_ended BadScript ends = ends
 not_ended BadStore ends = ends
 
-not_desk : (why : Refusal) → refused_as why ≢ answer.DeskFault
+not_desk : (why : Refusal) → refusal_status why ≢ answer.DeskFault
 not_desk NoFile = λ e. cc
 not_desk BadImage = λ e. cc
 not_desk BadScript = λ e. cc
 not_desk BadStore = λ e. cc
 
-not_vault : (why : Refusal) → refused_as why ≢ answer.VaultFault
+not_vault : (why : Refusal) → refusal_status why ≢ answer.VaultFault
 not_vault NoFile = λ e. cc
 not_vault BadImage = λ e. cc
 not_vault BadScript = λ e. cc
 not_vault BadStore = λ e. cc
 
-not_chip : (why : Refusal) → refused_as why ≢ answer.ChipFault
+not_chip : (why : Refusal) → refusal_status why ≢ answer.ChipFault
 not_chip NoFile = λ e. cc
 not_chip BadImage = λ e. cc
 not_chip BadScript = λ e. cc
 not_chip BadStore = λ e. cc
 
-is_missing : (why : Refusal) → refused_as why ≡ answer.NoFile → why ≡ NoFile
+is_missing : (why : Refusal) → refusal_status why ≡ answer.NoFile → why ≡ NoFile
 is_missing NoFile e = refl
 is_missing BadImage e = absurd cc
 is_missing BadScript e = absurd cc
@@ -310,7 +306,7 @@ module _ (task : Task) (desk : DeskAccount) (store : StoreAccount) (due : Due) w
 -- ---- what is due is the report
 
 summary_reported : (number : ℕ) (storage : Storage)
-    → reported (only (generated number)) storage ≡ told_as (whole.report_of_gen number storage)
+    → reported (only (generated number)) storage ≡ whole.report_of_gen number storage
 unfolding whole.report_of_gen
 summary_reported number storage = refl
 
@@ -345,7 +341,7 @@ module _ (task : Task) (desk : DeskAccount) (store : StoreAccount) (due : Due)
         ∙ summary_reported number storage
     by_task (Running order) why =
         ap (λ (r : said.Report). reported (only r) storage) why.is
-        ∙ sym (ap told_as (refusal_reported order files storage why.why (why.refused storage)))
+        ∙ sym (refusal_reported order files storage why.why (why.refused storage))
 
   of_files : IsOfFiles task desk due → (files : Files) × IsReport files
   of_files f = (
@@ -367,7 +363,7 @@ module _ (task : Task) (desk : DeskAccount) (store : StoreAccount) (due : Due)
       is = λ storage seen.
           ap (λ (d : Due). reported d storage) f.is
           ∙ sym (ap (λ (t : Task). report_of_task t f.opens.accepted.files storage) f.opens.runs
-          ∙ ap told_as (refused storage seen));
+          ∙ refused storage seen);
       left = left_by _ f.is;
     },
   ) where
@@ -378,7 +374,7 @@ module _ (task : Task) (desk : DeskAccount) (store : StoreAccount) (due : Due)
 
     refused : (storage : Storage) → IsSeen (has_store task) store storage
         → whole.report_of_run f.opens.order f.opens.accepted.files storage
-        ≡ record { status = whole.Store; text = f.line; storage = storage }
+        ≡ record { status = answer.Store; text = f.line; storage = storage }
     refused storage seen =
         refusal_reported f.opens.order f.opens.accepted.files storage
         (record { refusal = BadStore; line = f.line })
@@ -398,14 +394,13 @@ module _ (task : Task) (desk : DeskAccount) (store : StoreAccount) (due : Due)
           ap (λ (d : Due). reported d storage) f.is
           ∙ by_store f.run.order.is_stored storage
           ∙ sym (ap (λ (t : Task). report_of_task t f.run.accepted.files storage) f.run.runs
-          ∙ ap told_as
-          (run_reported f.run.order f.run.accepted.files storage
+          ∙ run_reported f.run.order f.run.accepted.files storage
           (start_from f.run.order f.run.accepted.parts f.run.records)
           (begun f.run.order f.run.accepted.files storage f.run.accepted.parts f.run.records
           (both_read f.run.order f.run.accepted.files f.run.accepted.parts.image
           f.run.accepted.parts.script f.run.accepted.loaded f.run.accepted.read)
           (f.run.finds storage
-          (subst (λ (b : Bool). IsSeen b store storage) (ap has_store f.run.runs) seen)))));
+          (subst (λ (b : Bool). IsSeen b store storage) (ap has_store f.run.runs) seen))));
       left = λ storage keeps.
           subst (λ (d : Due). Keeps after (storage_by d.act storage)) (sym f.is)
           (left_run f.run.order.is_stored storage
@@ -416,7 +411,7 @@ module _ (task : Task) (desk : DeskAccount) (store : StoreAccount) (due : Due)
     run = course_begun f.run
 
     by_store : (b : Bool) (storage : Storage)
-        → reported (finished b run) storage ≡ told_as (whole.report_of_course b run storage)
+        → reported (finished b run) storage ≡ whole.report_of_course b run storage
     by_store false storage = refl
     by_store true storage = refl
 

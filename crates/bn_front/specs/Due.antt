@@ -17,13 +17,13 @@ use Rattle.bn_model.specs.Running.{Course}
 use Rattle.bn_model.specs.Spelling.{text_of}
 use Rattle.bn_model.specs.Storing.{Storage, committed, records_in}
 use Rattle.bn_model.specs.Summaries.{generated_start, summary}
-use Rattle.bn_model.specs.WholeReports.{finish_status, refusal_status}
+use Rattle.bn_model.specs.WholeReports.{Report, finish_status, refusal_status}
 use Rattle.bn_model.specs.WholeRuns.{Refused, course_of, finish_of, image_in, records_for}
 use Rattle.bn_model.specs.WholeRuns.{script_for}
 use Rattle.bn_model.specs.WholeRuns as whole
 use Rattle.bn_front.specs.declared.named_file.NamedFile.{NamedFile}
 use Rattle.bn_front.specs.declared.named_file.NamedFile.TheVariants as named
-use Rattle.bn_front.specs.Built.{Generating, NoTask, Report, Running, Task, status_meant}
+use Rattle.bn_front.specs.Tasks.{Generating, NoTask, Running, Task}
 use Rattle.bn_front.specs.Starts.{Parts, start_from}
 use Rattle.bn_front.specs.Stored.{Act, Commits, FailsInChip, FailsInVault, IsSeen, Leaves}
 use Rattle.bn_front.specs.Stored.{StoreAccount, Tells}
@@ -99,7 +99,7 @@ unwritten TheChip = record { status = ChipFault; text = codes "chip commit\n" }
 -- the end line
 abbrev pub ended : Course → said.Report
 ended run = record {
-  status = status_meant (finish_status (finish_of run));
+  status = finish_status (finish_of run);
   text = end_line run.last (finish_of run);
 }
 
@@ -136,7 +136,7 @@ generated_run number = course_of (generated_start (made_of number))
 -- its summary
 abbrev pub generated : (number : ℕ) → said.Report
 generated number = record {
-  status = status_meant (finish_status (finish_of (generated_run number)));
+  status = finish_status (finish_of (generated_run number));
   text = summary number (generated_run number);
 }
 
@@ -204,7 +204,7 @@ course_begun run = course_of (start_from run.order run.accepted.parts run.record
 pub record RefusesRun (order : RunOrder) (files : Files) (last : said.Report) : Type 0 where
   pub why : Refused
   pub refused : (storage : Storage) → whole.start_of order files storage ≡ Err why
-  pub is : last ≡ record { status = status_meant (refusal_status why.refusal); text = why.line }
+  pub is : last ≡ record { status = refusal_status why.refusal; text = why.line }
 
 -- what is answered alone: no command, a generated run's summary, or what refuses a run
 abbrev pub StandsAlone : Task → Files → said.Report → Type 0

@@ -28,9 +28,10 @@ use Rattle.bn_model.specs.Storing.{Storage}
 use Rattle.bn_model.specs.SwitchingLaws.{IsStart}
 use Rattle.bn_model.specs.Touching.{Touch, touch}
 use Rattle.bn_model.specs.TouchingLaws.{IsDeclared, IsGivenUp, IsStored, IsUnowned}
+use Rattle.bn_model.specs.WholeReports.{Report}
 use Rattle.bn_model.specs.WholeRuns.{Start, course_of}
 use Rattle.bn_front.specs.declared.named_file.NamedFile.{NamedFile}
-use Rattle.bn_front.specs.Built.{Report, report_of, task_of, uses_store}
+use Rattle.bn_front.specs.Tasks.{report_of, task_of, uses_store}
 use Rattle.bn_front.specs.Due.{AreTold, Begins, Device, Due, IsDue, IsOfCommit, IsOfOpening}
 use Rattle.bn_front.specs.Due.{ReadsFile, TheChip, TheVault, course_begun, due_text, failed_line}
 use Rattle.bn_front.specs.Due.{missing_line}

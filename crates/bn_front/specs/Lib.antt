@@ -1,4 +1,4 @@
-pub mod Built
+pub mod Tasks
 pub mod Due
 pub mod Headline
 pub mod Items

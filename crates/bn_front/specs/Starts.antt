@@ -13,7 +13,7 @@ use Rattle.bn_model.specs.State.{State}
 use Rattle.bn_model.specs.Storing.{Storage}
 use Rattle.bn_model.specs.WholeRuns.{Refused, Start}
 use Rattle.bn_model.specs.WholeRuns as whole
-use Rattle.bn_front.specs.Built.{Generating, NoTask, Running, Task, task_of}
+use Rattle.bn_front.specs.Tasks.{Generating, NoTask, Running, Task, task_of}
 
 -- ---- where it begins
 

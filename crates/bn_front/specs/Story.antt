@@ -28,7 +28,7 @@ use Rattle.bn_front.specs.declared.refusal.Refusal.{Refusal}
 use Rattle.bn_front.specs.declared.refusal.Refusal.TheVariants as refusal
 use Rattle.bn_front.specs.declared.words_error.WordsError.{WordsError}
 use Rattle.bn_front.specs.declared.words_error.WordsError.TheVariants as error
-use Rattle.bn_front.specs.Built.{Task}
+use Rattle.bn_front.specs.Tasks.{Task}
 use Rattle.bn_front.specs.Due.{Device, Due, IsDue, TheChip, TheVault, act_failed, bad_store}
 use Rattle.bn_front.specs.Due.{desk_failed, ended, generated, missing_line, no_command}
 use Rattle.bn_front.specs.Due.{unread, unwritten}

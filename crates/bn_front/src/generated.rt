@@ -7,8 +7,7 @@ ghost use Rattle.bn_model.specs.Running.{course};
 ghost use Rattle.bn_model.specs.Scripts.{first_events, script_of};
 ghost use Rattle.bn_model.specs.Summaries as flat;
 ghost use Rattle.bn_model.specs.WholeReports.{finish_status};
-ghost use Rattle.bn_model.specs.WholeRuns.{always, finish_if, finish_of};
-ghost use Rattle.bn_front.specs.Built.{status_meant};
+ghost use Rattle.bn_model.specs.WholeRuns.{finish_if, finish_of};
 ghost use Rattle.bn_front.specs.Due.{generated_run};
 ghost use Rattle.bn_front.specs.Reading.{Fills, image_meant};
 ghost use Rattle.bn_front.specs.Story.{CountsSinkFault, RunsGenerated};
@@ -50,7 +49,7 @@ pub fn serve_generated<O: Sink>(alloc: Global, number: u64, out: &mut O) -> Stat
 }
 
 fn status_of(finish: Finish) -> Status
-    ensures exact { result ≡ status_meant (finish_status finish) }
+    ensures exact { result ≡ finish_status finish }
     ensures sink { result ≢ Status.SinkFault }
     ensures memory { result ≢ Status.Memory }
 {
@@ -124,9 +123,9 @@ fn make_events<L: Ledger>(
     requires begins { machine.old.state.clock ≡ 0 }
     requires none { tally.old ≡ tally_of [] }
     ensures last { machine.new.state
-        ≡ (course always None machine.old.state (first_events 1000000 script.old)).last }
+        ≡ (course None machine.old.state (first_events 1000000 script.old)).last }
     ensures told { tally.new
-        ≡ tally_of (course always None machine.old.state (first_events 1000000 script.old)).told }
+        ≡ tally_of (course None machine.old.state (first_events 1000000 script.old)).told }
 {
     let mut lines = LineBuf::new();
     for _event in 0..MOST_EVENTS {

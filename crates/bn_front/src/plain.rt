@@ -2,7 +2,7 @@
 ghost use Rattle.std.specs.Prelude.{◌≡◌, ◌≢◌, ◌+◌, ◌^◌, ◌<◌, [], false, length};
 ghost use Rattle.bn_model.specs.Running.{blind_at, course};
 ghost use Rattle.bn_model.specs.Scripts.{first_events};
-ghost use Rattle.bn_model.specs.WholeRuns.{always, course_of};
+ghost use Rattle.bn_model.specs.WholeRuns.{course_of};
 ghost use Rattle.bn_front.specs.Meant.{IsInRange, own_meant};
 ghost use Rattle.bn_front.specs.Reading.{Fit, start_with};
 ghost use Rattle.bn_front.specs.Story.{CountsSinkFault, RunsPlainly};
@@ -52,7 +52,7 @@ fn run_plainly<O: Sink, L: Ledger>(
     requires name { blank.name ≡ L.name }
     requires parts { blank.parts ≡ L.parts }
     requires some { 0 < L.parts }
-    ensures runs { RunsPlainly (course always (blind_at order.now.blind) machine.state
+    ensures runs { RunsPlainly (course (blind_at order.now.blind) machine.state
         (first_events order.now.steps script)) result (O.account out.old) (O.account out.new) }
     ensures counted { CountsSinkFault result (O.account out.old).faults (O.account out.new).faults }
 {

@@ -57,7 +57,6 @@ pub fn close<O: Sink, L: Ledger>(
     out: &mut O,
     steps: &mut Steps<L>,
 ) -> Status
-    requires built { ending ≢ Ending.Unbuilt }
     ensures answers { AnswersReport (flat.closing ending machine.now.state) result
         (O.account out.old) (O.account out.new) }
     ensures counted { CountsSinkFault result (O.account out.old).faults (O.account out.new).faults }
@@ -65,7 +64,6 @@ pub fn close<O: Sink, L: Ledger>(
     match ending {
         Ending::Shutdown => say_end(machine, Finish::Shutdown, Status::Ended, out, steps),
         Ending::Limit => say_end(machine, Finish::Limit, Status::Limit, out, steps),
-        Ending::Unbuilt => unreachable!(),
     }
 }
 

@@ -3,7 +3,7 @@ ghost use Rattle.std.specs.Prelude.{◌≡◌, ◌≢◌, ◌+◌, ◌^◌, ◌<
 ghost use Rattle.bn_model.specs.Reporting.{closing};
 ghost use Rattle.bn_model.specs.Running.{blind_at, course};
 ghost use Rattle.bn_model.specs.Scripts.{first_events};
-ghost use Rattle.bn_model.specs.WholeRuns.{always, course_of};
+ghost use Rattle.bn_model.specs.WholeRuns.{course_of};
 ghost use Rattle.bn_vault.specs.Openings.{IsCurrent};
 ghost use Rattle.bn_front.specs.Due.{unwritten};
 ghost use Rattle.bn_front.specs.Meant.{IsInRange, own_meant};
@@ -110,7 +110,7 @@ fn run_stored<V: Vault, C: Chip, O: Sink, L: Ledger>(
     requires name { blank.name ≡ L.name }
     requires parts { blank.parts ≡ L.parts }
     requires some { 0 < L.parts }
-    ensures runs { RunsStored (course always (blind_at order.now.blind) machine.state
+    ensures runs { RunsStored (course (blind_at order.now.blind) machine.state
         (first_events order.now.steps script)) result
         (store_of (V.account vault.old) (C.account chip.old))
         (store_of (V.account vault.new) (C.account chip.new))
@@ -134,7 +134,6 @@ fn commit_and_close<V: Vault, C: Chip, O: Sink, L: Ledger>(
     out: &mut O,
     steps: &mut Steps<L>,
 ) -> Status
-    requires built { ending ≢ Ending.Unbuilt }
     requires usable { held.spent ≡ false }
     requires current { IsCurrent held.current
         (V.account vault.old).areas (C.account chip.old).register }

@@ -1,7 +1,6 @@
 //! The one call that the program makes.
 ghost use Rattle.std.specs.Prelude.{◌≡◌, Some, false};
-ghost use Rattle.bn_front.specs.Built.{has_store, task_by, task_of, uses_store};
-ghost use Rattle.bn_front.specs.Built.{Running};
+ghost use Rattle.bn_front.specs.Tasks.{Running, has_store, task_by, task_of, uses_store};
 ghost use Rattle.bn_front.specs.Headline.{Promise, outside};
 ghost use Rattle.bn_front.specs.Meant.{AreInRange, IsInRange, bytes_of_words, order_meant};
 ghost use Rattle.bn_front.specs.Meant.{own_meant};
@@ -22,9 +21,8 @@ use std::alloc::Global;
 ///
 /// The words are those that `read_words` reads. A run with `--store` opens its store from vault and
 /// chip before it begins, and commits it once it has ended, before the end line is written; any
-/// other call leaves vault and chip alone. Of what words order only `gen` isn't built yet. Where
-/// nothing fails, the status, the text and what stands stored are those of the report of the flat
-/// machine.
+/// other call leaves vault and chip alone. Where nothing fails, the status, the text and what stands
+/// stored are those of the report of the flat machine.
 pub fn bastion<D: Desk, V: Vault, C: Chip, O: Sink>(
     alloc: Global,
     words: &[Vec<u8>],

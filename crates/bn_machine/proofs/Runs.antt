@@ -17,9 +17,8 @@ use Rattle.bn_model.specs.Spelling.{spelling, text_of}
 use Rattle.bn_model.specs.Soundness.{IsSound}
 use Rattle.bn_model.specs.State.{State}
 use Rattle.bn_model.specs.Stepping.{Fits, FitsHarts, step, lines}
-use Rattle.bn_model.specs.WholeRuns.{always}
 use Rattle.bn_model.proofs.BeforeLemmas.{clock-before, fit-by, harts-before, off-before}
-use Rattle.bn_model.proofs.RunningLemmas.{course_built, course_none, course_off}
+use Rattle.bn_model.proofs.RunningLemmas.{course_none, course_off, course_on}
 use Rattle.bn_model.proofs.RunningLemmas.{run-append, run_on}
 use Rattle.bn_model.proofs.ScriptLemmas.{after-more, events-harts, first-events-fit, first-more}
 use Rattle.bn_model.proofs.ScriptLemmas.{first-split, next-fits}
@@ -42,7 +41,7 @@ events_left all limit made = first_events (limit - made) (after_events made all)
 
 -- the course of some events, and its text
 abbrev pub rest_of : Option Blind → State → List Event → Course
-rest_of blind s events = course always blind s events
+rest_of blind s events = course blind s events
 
 abbrev pub text_of_rest : Option Blind → State → List Event → List ℕ
 text_of_rest blind s events = text_of (rest_of blind s events).told
@@ -157,7 +156,7 @@ module _ (blind : Option Blind) (start now : State) (all : Script) (limit made :
       ≡ (let rest = rest_of blind next left in
       record rest { told = lines (before blind now) event ++ rest.told })
   after_made =
-      ap (rest_of blind now) first_left ∙ course_built always blind now event left underway.on refl
+      ap (rest_of blind now) first_left ∙ course_on blind now event left underway.on
 
   text_left : text_of_rest blind now (events_left all limit made)
       ≡ said ++ text_of_rest blind next left
@@ -218,7 +217,7 @@ module _ (blind : Option Blind) (start now : State) (all : Script) (limit made :
   pub finished_off : (later : SinkAccount) → next.off ≡ true → Writes sink later said
       → FinishesRun (rest_of blind start (first_events limit all)) Shutdown next old later
   finished_off later off e =
-      let rest = course_off always blind next left off in
+      let rest = course_off blind next left off in
       let total : text_of_rest blind start (first_events limit all) ≡ before_said ++ said =
       underway.text ∙ ap (λ t. before_said ++ t)
       (text_left ∙ ap (λ (c : Course). said ++ text_of c.told) rest ∙ append-nil said) in
@@ -285,7 +284,7 @@ unfolding first_events
 finished_limit blind start now all limit made old sink underway e =
     let none : limit - made ≡ 0 = omega arith in
     let rest = ap (λ n. rest_of blind now (first_events n (after_events made all))) none
-    ∙ course_none always blind now underway.on in
+    ∙ course_none blind now underway.on in
     let total : text_of_rest blind start (first_events limit all) ≡ text_made blind start all made =
     underway.text
     ∙ ap (λ (c : Course). text_made blind start all made ++ text_of c.told) rest

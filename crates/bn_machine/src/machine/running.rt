@@ -7,7 +7,6 @@ ghost use Rattle.bn_model.specs.Running.{blind_at, course, state_before};
 ghost use Rattle.bn_model.specs.Scripts.{IsOrderly, first_events};
 ghost use Rattle.bn_model.specs.Spelling.{text_of};
 ghost use Rattle.bn_model.specs.Stepping as flat;
-ghost use Rattle.bn_model.specs.WholeRuns.{always};
 ghost use Rattle.bn_machine.specs.Telling.{FinishesRun, IsLeftOf, StopsRun};
 
 use crate::LineBuf;
@@ -42,12 +41,12 @@ impl Machine {
         requires clock { self.old.state.clock + limit < 2 ^ 64 }
         requires still { moves ≡ 0 }
         ensures finished { IfOk result (λ ending. FinishesRun
-            (course always (blind_at blind) self.old.state (first_events limit script.old))
+            (course (blind_at blind) self.old.state (first_events limit script.old))
             ending self.new.state (O.account out.old) (O.account out.new)) }
         ensures stopped { OnErr result (StopsRun (blind_at blind) self.old.state self.new.state
             (first_events limit script.old) (O.account out.old) (O.account out.new)) }
         ensures front { OnErr result (WritesFront (O.account out.old) (O.account out.new)
-            (text_of (course always (blind_at blind) self.old.state
+            (text_of (course (blind_at blind) self.old.state
             (first_events limit script.old)).told)) }
         ensures failed { CountsRefusals result
             (O.account out.old).faults (O.account out.new).faults }

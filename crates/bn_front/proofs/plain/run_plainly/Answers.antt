@@ -1,12 +1,6 @@
-use Rattle.std.proofs.Common.{inl, inr, refl, sym, ◌∙◌}
+use Rattle.std.proofs.Common.{inl, inr, refl}
 use Rattle.bn_front.proofs.Commits.{ends_plainly}
-use Rattle.bn_front.proofs.Courses.{never-unbuilt}
 use Rattle.bn_front.proofs.plain.run_plainly.Goals as goal
-
-pub close-requires : goal.close-requires
-close-requires g c = record {
-  built = λ e. never-unbuilt _ _ _ (sym c.in-Ok.ensures.finished.ending ∙ e);
-}
 
 pub returns-in-Ok-clause-runs : goal.returns-in-Ok-clause-runs
 returns-in-Ok-clause-runs g c =

@@ -1,12 +1,7 @@
-use Rattle.std.proofs.Common.{inl, inr, refl, sym, ◌∙◌}
+use Rattle.std.proofs.Common.{inl, inr, refl}
 use Rattle.bn_front.specs.Stored.{store_of}
 use Rattle.bn_front.proofs.Commits.{ends_stored, unread}
-use Rattle.bn_front.proofs.Courses.{never-unbuilt}
 use Rattle.bn_front.proofs.stored.run_stored.Goals as goal
-
-pub commit_and_close-requires-clause-built : goal.commit_and_close-requires-clause-built
-commit_and_close-requires-clause-built g c = λ e.
-    never-unbuilt _ _ _ (sym c.in-Ok.ensures.finished.ending ∙ e)
 
 pub returns-in-Ok-clause-runs : goal.returns-in-Ok-clause-runs
 returns-in-Ok-clause-runs g c =

@@ -1,5 +1,5 @@
 use Rattle.std.proofs.Common.{ap, refl, subst, ◌∙◌}
-use Rattle.bn_front.specs.Built.{Task, has_store}
+use Rattle.bn_front.specs.Tasks.{Task, has_store}
 use Rattle.bn_front.specs.Headline.{outside}
 use Rattle.bn_front.specs.Meant.{bytes_of_words}
 use Rattle.bn_front.specs.Stored.{store_of}

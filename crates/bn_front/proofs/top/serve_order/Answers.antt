@@ -1,6 +1,6 @@
 use Rattle.std.proofs.Common.{Some, refl, subst, sym}
 use Rattle.bn_front.specs.declared.order.Order.{Order}
-use Rattle.bn_front.specs.Built.{task_by}
+use Rattle.bn_front.specs.Tasks.{task_by}
 use Rattle.bn_front.specs.Headline.{outside}
 use Rattle.bn_front.specs.Meant.{order_meant}
 use Rattle.bn_front.specs.Stored.{store_of}
