@@ -29,6 +29,7 @@ use Rattle.bn_model.specs.Spelling.{text_of}
 use Rattle.bn_model.specs.State.{State, resting_hart}
 use Rattle.bn_model.specs.Stepping.{Fits, step}
 use Rattle.bn_model.specs.Storing.{Storage}
+use Rattle.bn_model.specs.WholeReports.{Report}
 use Rattle.bn_model.specs.WholeRuns as whole
 use Rattle.bn_model.specs.WholeRuns.{Refused, Start, image_in, image_loaded, records_for}
 use Rattle.bn_model.specs.WholeRuns.{script_file, script_for, script_read}
