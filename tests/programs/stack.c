@@ -1,6 +1,6 @@
 /* A small stack language and a program in it. The program is compiled to instructions and run: it
-   lists and counts primes, and looks for the longest Collatz sequence up to a limit. A word acts on the
-   stack; `: name .. ;` defines one; `if .. else .. then`, `begin .. until` and
+   lists and counts primes, and looks for the longest Collatz sequence up to a limit. A word acts on
+   the stack; `: name .. ;` defines one; `if .. else .. then`, `begin .. until` and
    `begin .. while .. repeat` are as in Forth; `@` and `!` load and store a numbered cell. */
 
 #include "console.h"
