@@ -14,6 +14,7 @@ use std::sync::ledger::Ledger;
 
 impl Engine {
     /// A device's event, which leaves its line.
+    #[inline(always)]
     #[tactic(auto, using(crate::proofs::Turns::sound_event), unfolding(bn_model::specs::Stepping::step, bn_model::specs::Stepping::lines))]
     pub(crate) fn serve_device<L: Ledger>(
         &mut self,
@@ -40,6 +41,7 @@ impl Engine {
     }
 
     /// A key waits now, or is lost where 256 wait.
+    #[inline(never)]
     #[tactic(auto, unfolding(bn_model::specs::Stepping::step, bn_model::specs::Stepping::lines))]
     fn press(&mut self, key: u8, lines: &mut LineBuf)
         requires clock { self.old.state.clock < 2 ^ 64 - 1 }
@@ -63,6 +65,7 @@ impl Engine {
     }
 
     /// A byte is written, where a device reaches the page.
+    #[inline(never)]
     #[tactic(auto, unfolding(bn_model::specs::Stepping::step, bn_model::specs::Stepping::lines))]
     fn poke<L: Ledger>(
         &mut self,
@@ -116,6 +119,7 @@ impl Engine {
     }
 
     /// A byte is read, where a device reaches the page.
+    #[inline(never)]
     #[tactic(auto, unfolding(bn_model::specs::Stepping::step, bn_model::specs::Stepping::lines))]
     fn peek<L: Ledger>(&mut self, page: Gpn, offset: u16, lines: &mut LineBuf, steps: &mut Steps<L>)
         requires offset { offset < 4096 }

@@ -28,6 +28,7 @@ pub(super) const ILLEGAL_INSTRUCTION: Cause = Cause(2);
 
 impl Engine {
     /// A turn of hart h, which leaves its lines.
+    #[inline(always)]
     #[tactic(auto, unfolding(bn_model::specs::Deciding::decision_of, crate::specs::Costs::CountsTurn))]
     pub(crate) fn take_turn<L: Ledger>(&mut self, h: u8, lines: &mut LineBuf, steps: &mut Steps<L>)
         requires sound { IsSound self.old.state }
@@ -42,6 +43,7 @@ impl Engine {
         self.make_turn(h, lines, steps)
     }
 
+    #[inline(always)]
     fn make_turn<L: Ledger>(&mut self, h: u8, lines: &mut LineBuf, steps: &mut Steps<L>)
         requires sound { IsSound self.old.state }
         requires hart { h < length self.old.state.harts }

@@ -89,6 +89,7 @@ impl Machine {
 
     /// Makes an event, before which the secrets of the module are zeroed where it is the event of
     /// this number.
+    #[inline(always)]
     fn make_event<L: Ledger>(
         &mut self,
         event: Event,

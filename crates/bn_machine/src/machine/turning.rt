@@ -12,6 +12,7 @@ use std::sync::ledger::Ledger;
 
 impl Machine {
     /// Makes one event and leaves its lines.
+    #[inline(always)]
     #[tactic(auto, unfolding(bn_model::specs::Stepping::step, bn_model::specs::Stepping::lines))]
     pub fn turn<L: Ledger>(&mut self, event: Event, lines: &mut LineBuf, steps: &mut Steps<L>)
         requires on { self.old.state.off ≡ false }
