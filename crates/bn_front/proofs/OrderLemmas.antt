@@ -1,6 +1,6 @@
 -- What words order is in its range.
 use Rattle.std.proofs.Common.{◌≡◌, ℕ, ◌-◌, ◌≤◌, ◌^◌, ◌&&◌, Bool, true, false, nat_le, List, [], ◌∷◌}
-use Rattle.std.proofs.Common.{Option, Some, None, option_map, refl, ap, subst, arith}
+use Rattle.std.proofs.Common.{Option, Some, None, option_map, refl, subst, arith}
 use Rattle.std.proofs.Common.{leb-true}
 use Rattle.std.proofs.lemmas.Bool.{and_parts}
 use Rattle.std.proofs.lemmas.Option.{none-some, same_Some}
@@ -8,40 +8,7 @@ use Rattle.std.specs.List.{list_all}
 use Rattle.std.specs.Str.Parse.{digits_value}
 use Rattle.bn_model.specs.CommandLines as flat
 use Rattle.bn_model.specs.CommandLines.{RunOrder}
-use Rattle.bn_front.specs.declared.item.Item.{Item}
-use Rattle.bn_front.specs.declared.option_name.OptionName.{OptionName}
-use Rattle.bn_front.specs.declared.option_name.OptionName.TheVariants as option
-use Rattle.bn_front.specs.Items.{item_by, item_meant, items_meant, name_meant}
 use Rattle.bn_front.specs.Tasks.{Running, Task, task_by, task_of}
-
--- ---- pages stay in their frames
-
-still_item : (item : Item) → flat.value_in flat.Moves (item_meant item) ≡ None
-still_item item = by_option item.option where
-  by_name : (name : OptionName)
-      → flat.value_in flat.Moves (flat.Given (name_meant name) item.text.now) ≡ None
-  by_name option.Ram = refl
-  by_name option.Harts = refl
-  by_name option.Steps = refl
-  by_name option.Script = refl
-  by_name option.Store = refl
-  by_name option.Blind = refl
-
-  by_option : (name : Option OptionName)
-      → flat.value_in flat.Moves (item_by name item.text.now) ≡ None
-  by_option None = refl
-  by_option (Some name) = by_name name
-
--- no item of the code moves pages
-still_items : (items : List Item) → flat.values_of flat.Moves (items_meant items) ≡ []
-still_items [] = refl
-still_items (item ∷ items) = rw (still_item item) (still_items items)
-
-pub still_moves : (items : List Item)
-    → flat.at_most_one 0 (flat.number_between 0 1000000000)
-    (flat.values_of flat.Moves (items_meant items)) ≡ Some 0
-still_moves items =
-    ap (flat.at_most_one 0 (flat.number_between 0 1000000000)) (still_items items)
 
 -- ---- the machine of an order
 

@@ -1,5 +1,5 @@
 -- What items say of an option.
-use Rattle.std.proofs.Common.{◌≡◌, ℕ, ◌-◌, ◌<◌, List, [], ◌∷◌, length, take, drop, Option, Some}
+use Rattle.std.proofs.Common.{◌≡◌, ℕ, ◌-◌, ◌<◌, List, [], ◌∷◌, length, take, drop}
 use Rattle.std.proofs.Common.{None, refl, sym, ap, arith}
 use Rattle.std.proofs.lemmas.List.{take_all}
 use Rattle.bn_types.specs.Splitting.{pieces_after, split_by}
@@ -22,7 +22,3 @@ pub pieces_from : (rest : List ℕ) → 0 < length rest
 pieces_from [] some = absurd (omega (arith, some))
 pieces_from (mark ∷ text) some =
     ap (split_by 64) (sym (take_all (length (mark ∷ text) - 1) text (omega arith)))
-
-abbrev pub in_front : Option (List ℕ) → List (List ℕ) → List (List ℕ)
-in_front None texts = texts
-in_front (Some text) texts = text ∷ texts

@@ -1,4 +1,5 @@
 pub mod Tasks
+pub mod Commands
 pub mod Due
 pub mod Headline
 pub mod Items

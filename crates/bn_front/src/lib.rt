@@ -8,12 +8,10 @@ pub use run_order::RunOrder;
 pub use top::bastion;
 pub use words_error::WordsError;
 
-mod form;
+mod command;
 mod generated;
 mod images;
 mod inputs;
-mod item;
-mod items;
 mod named_file;
 mod number;
 mod option_name;
@@ -27,8 +25,6 @@ mod run_order;
 mod run_order_ref;
 mod running;
 mod scripts;
-mod stage;
-mod step;
 mod stored;
 mod summary;
 #[cfg(test)]

@@ -1,18 +1,20 @@
 //! The whole command line.
 ghost use Rattle.std.specs.Prelude.{◌≡◌, IfOk, option_map, true};
+ghost use Rattle.std.specs.List.{list_all};
 ghost use Rattle.bn_model.specs.CommandLines as flat;
-ghost use Rattle.bn_front.specs.Items.{items_meant};
+ghost use Rattle.bn_front.specs.Commands.{word_id};
+ghost use Rattle.bn_front.specs.Items.{gen_by, texts_under};
 ghost use Rattle.bn_front.specs.Meant.{Answers, AreInRange, bytes_of_texts, bytes_of_words};
 ghost use Rattle.bn_front.specs.Meant.{order_meant};
 
-use crate::item::Item;
-use crate::items::read_items;
+use crate::command::find_words;
 use crate::number::number_between;
 use crate::running::{own, run_of};
 use crate::texts::read_texts;
 use crate::tool::{Tool, tool_named};
 use crate::values::lone_word;
 use crate::{Order, WordsError};
+use clap::ArgMatches;
 use std::alloc::Global;
 
 /// What the words after the program's name order: `run`, one image and options, or `gen` and a
@@ -29,6 +31,7 @@ pub fn read_words(alloc: Global, words: &[Vec<u8>]) -> Result<Order, WordsError>
 }
 
 fn read_line(alloc: Global, words: &[&str]) -> Result<Order, WordsError>
+    requires { list_all flat.is_some_text (bytes_of_texts words.now) ≡ true }
     ensures read { Answers (λ order. order_meant order)
         (flat.order_if true flat.still_names (bytes_of_texts words.now)) result }
     ensures range { IfOk result (λ order. AreInRange (order_meant order)) }
@@ -44,12 +47,13 @@ fn read_line(alloc: Global, words: &[&str]) -> Result<Order, WordsError>
 }
 
 fn read_run(alloc: Global, words: &[&str]) -> Result<Order, WordsError>
+    requires { list_all flat.is_some_text (bytes_of_texts words.now) ≡ true }
     ensures read { Answers (λ order. order_meant order)
         (flat.order_by flat.still_names flat.Running (bytes_of_texts words.now)) result }
     ensures range { IfOk result (λ order. AreInRange (order_meant order)) }
 {
-    let items = read_items(alloc, Tool::Run, words)?;
-    match run_of(items.as_slice()) {
+    let matches = find_words(alloc, Tool::Run, words)?;
+    match run_of(&matches) {
         Some(run) => match own(alloc, run) {
             Ok(run) => Ok(Order::Run(run)),
             Err(_) => Err(WordsError::Memory),
@@ -59,21 +63,22 @@ fn read_run(alloc: Global, words: &[&str]) -> Result<Order, WordsError>
 }
 
 fn read_gen(alloc: Global, words: &[&str]) -> Result<Order, WordsError>
+    requires { list_all flat.is_some_text (bytes_of_texts words.now) ≡ true }
     ensures read { Answers (λ order. order_meant order)
         (flat.order_by flat.still_names flat.Generating (bytes_of_texts words.now)) result }
     ensures range { IfOk result (λ order. AreInRange (order_meant order)) }
 {
-    let items = read_items(alloc, Tool::Gen, words)?;
-    match number_of(items.as_slice()) {
+    let matches = find_words(alloc, Tool::Gen, words)?;
+    match number_of(&matches) {
         Some(number) => Ok(Order::Gen(number)),
         None => Err(WordsError::Words),
     }
 }
 
 /// The number of the one plain word, below 2^64. None where there is no such word, or number.
-#[tactic(auto, unfolding(bn_model::specs::CommandLines::gen_of))]
-fn number_of(items: &[Item<'_>]) -> Option<u64>
-    ensures { option_map (λ number. flat.Gen number) result ≡ flat.gen_of (items_meant items.now) }
+fn number_of(matches: &ArgMatches<'_>) -> Option<u64>
+    ensures { option_map (λ number. flat.Gen number) result
+        ≡ gen_by (texts_under word_id matches.now) }
 {
-    number_between(lone_word(items)?.as_bytes(), 0, u64::MAX)
+    number_between(lone_word(matches)?.as_bytes(), 0, u64::MAX)
 }

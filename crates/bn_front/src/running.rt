@@ -1,30 +1,29 @@
 //! What the words of `run` come to.
 ghost use Rattle.std.specs.Prelude.{◌≡◌, IfOk, IfSome, option_map, string_bytes};
 ghost use Rattle.bn_model.specs.CommandLines as flat;
-ghost use Rattle.bn_front.specs.Items.{items_meant};
+ghost use Rattle.bn_front.specs.Items.{run_in};
 ghost use Rattle.bn_front.specs.Meant.{IsInRange, own_meant, run_meant};
 
 use crate::RunOrder;
-use crate::item::Item;
 use crate::option_name::OptionName;
 use crate::run_order_ref::RunOrderRef;
 use crate::values::{blind_given, lone_word, number_given, script_given, store_given};
+use clap::ArgMatches;
 use std::alloc::{AllocError, Global};
 
-/// The run that these items order. None where they order none. No page is moved to another frame.
-#[tactic(auto, unfolding(bn_model::specs::CommandLines::run_of), using(crate::proofs::OrderLemmas::still_moves))]
-pub fn run_of<'a>(items: &[Item<'a>]) -> Option<RunOrderRef<'a>>
+/// The run that these matches order. None where they order none. No page is moved to another frame.
+pub fn run_of<'a>(matches: &ArgMatches<'a>) -> Option<RunOrderRef<'a>>
     ensures exact { option_map (λ run. flat.Run (run_meant run)) result
-        ≡ flat.run_of (items_meant items.now) }
+        ≡ run_in matches.now }
     ensures range { IfSome result (λ run. IsInRange (run_meant run)) }
 {
-    let image = lone_word(items)?;
-    let ram_pages = number_given(items, OptionName::Ram, 1024, 16, 4096)?;
-    let harts = number_given(items, OptionName::Harts, 1, 1, 4)?;
-    let steps = number_given(items, OptionName::Steps, 1_000_000, 0, 1_000_000_000)?;
-    let script = script_given(items)?;
-    let store = store_given(items)?;
-    let blind = blind_given(items)?;
+    let image = lone_word(matches)?;
+    let ram_pages = number_given(matches, OptionName::Ram, 1024, 16, 4096)?;
+    let harts = number_given(matches, OptionName::Harts, 1, 1, 4)?;
+    let steps = number_given(matches, OptionName::Steps, 1_000_000, 0, 1_000_000_000)?;
+    let script = script_given(matches)?;
+    let store = store_given(matches)?;
+    let blind = blind_given(matches)?;
     Some(RunOrderRef {
         image,
         ram_pages: ram_pages as u32,

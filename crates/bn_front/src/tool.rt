@@ -1,8 +1,21 @@
 //! The first word.
-ghost use Rattle.std.specs.Prelude.{◌≡◌, option_map};
+ghost use Rattle.std.specs.Prelude.{◌≡◌, map, option_map};
 ghost use Rattle.std.specs.Str.{bytes_eq};
 ghost use Rattle.bn_model.specs.CommandLines as flat;
-ghost use Rattle.bn_front.specs.Items.{tool_meant};
+ghost use Rattle.bn_front.specs.Items.{name_meant, names_of, tool_meant};
+
+use crate::option_name::OptionName;
+
+static RUN_OPTIONS: [OptionName; 6] = [
+    OptionName::Ram,
+    OptionName::Harts,
+    OptionName::Steps,
+    OptionName::Script,
+    OptionName::Store,
+    OptionName::Blind,
+];
+
+static NO_OPTIONS: [OptionName; 0] = [];
 
 /// What the first word names.
 #[derive(Clone, Copy)]
@@ -20,6 +33,16 @@ impl Tool {
         match self {
             Tool::Run => "run" == name,
             Tool::Gen => "gen" == name,
+        }
+    }
+
+    /// The options that it takes.
+    pub fn options(self) -> &'static [OptionName]
+        ensures { map name_meant result.now ≡ names_of self }
+    {
+        match self {
+            Tool::Run => RUN_OPTIONS.as_slice(),
+            Tool::Gen => NO_OPTIONS.as_slice(),
         }
     }
 }

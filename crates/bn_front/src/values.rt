@@ -3,45 +3,40 @@ ghost use Rattle.std.specs.Prelude.{◌≡◌, ◌≤◌, IfSome, None, Some, fa
 ghost use Rattle.bn_types.specs.Splitting.{split_by};
 ghost use Rattle.bn_model.specs.CommandLines as flat;
 ghost use Rattle.bn_model.specs.Scripts as scripts;
-ghost use Rattle.bn_front.specs.Items.{item_meant, items_meant, lone, name_meant, text_if, text_in};
-ghost use Rattle.bn_front.specs.Items.{texts_of};
+ghost use Rattle.bn_front.specs.Commands.{word_id};
+ghost use Rattle.bn_front.specs.Items.{lone, name_meant, texts_under};
 ghost use Rattle.bn_front.specs.Meant.{CanBlind, blind_meant};
 
-use crate::item::Item;
+use crate::command::WORD;
 use crate::number::number_between;
 use crate::option_name::OptionName;
 use bn_types::{ModId, split_first};
+use clap::ArgMatches;
 
-/// The text of this option, or with None of a plain word: Some(None) where there is none, None
-/// where there are several.
-fn lone_text<'a>(items: &[Item<'a>], option: Option<OptionName>) -> Option<Option<&'a str>>
+/// The text under this id: Some(None) where there is none, None where there are several.
+fn lone_text<'a>(matches: &ArgMatches<'a>, id: &str) -> Option<Option<&'a str>>
     ensures { option_map (λ found. option_map (λ text. text.now) found) result
-        ≡ lone (texts_of option (items_meant items.now)) }
+        ≡ lone (texts_under id.now matches.now) }
 {
-    let mut found = None;
-    for item in items {
-        if is_of(*item, option) {
-            if found.is_some() {
-                return None;
-            }
-            found = Some(item.text);
-        }
+    match matches.get_raw(id) {
+        None | Some([]) => Some(None),
+        Some([text]) => Some(Some(*text)),
+        Some(_) => None,
     }
-    Some(found)
 }
 
 /// The one plain word. None where there are none, or several.
-pub fn lone_word<'a>(items: &[Item<'a>]) -> Option<&'a str>
+pub fn lone_word<'a>(matches: &ArgMatches<'a>) -> Option<&'a str>
     ensures { option_map (λ word. word.now) result
-        ≡ flat.only_one (flat.plain_words (items_meant items.now)) }
+        ≡ flat.only_one (texts_under word_id matches.now) }
 {
-    lone_text(items, None)?
+    lone_text(matches, WORD)?
 }
 
 /// An option's number, from least to most, or another where it isn't given. None where it is given
 /// twice, or its value is no such number.
 pub fn number_given(
-    items: &[Item<'_>],
+    matches: &ArgMatches<'_>,
     option: OptionName,
     absent: u64,
     least: u64,
@@ -50,30 +45,31 @@ pub fn number_given(
     requires least { least ≤ absent }
     requires most { absent ≤ most }
     ensures exact { result ≡ flat.at_most_one absent (flat.number_between least most)
-        (flat.values_of (name_meant option) (items_meant items.now)) }
+        (texts_under (flat.name_text (name_meant option)) matches.now) }
     ensures range { IfSome result (λ n. (least ≤ n) × (n ≤ most)) }
 {
-    match lone_text(items, Some(option))? {
+    match lone_text(matches, option.text())? {
         Some(text) => number_between(text.as_bytes(), least, most),
         None => Some(absent),
     }
 }
 
 /// The script's file, where it is given. None where it is given twice.
-pub fn script_given<'a>(items: &[Item<'a>]) -> Option<Option<&'a str>>
+pub fn script_given<'a>(matches: &ArgMatches<'a>) -> Option<Option<&'a str>>
     ensures { option_map (λ found. option_map (λ text. text.now) found) result
         ≡ flat.at_most_one None flat.file_of
-        (flat.values_of flat.ScriptFile (items_meant items.now)) }
+        (texts_under (flat.name_text flat.ScriptFile) matches.now) }
 {
-    lone_text(items, Some(OptionName::Script))
+    lone_text(matches, OptionName::Script.text())
 }
 
 /// Whether the store is asked for. None where it is twice.
-pub fn store_given(items: &[Item<'_>]) -> Option<bool>
+pub fn store_given(matches: &ArgMatches<'_>) -> Option<bool>
     ensures { result
-        ≡ flat.at_most_one false flat.flag_of (flat.values_of flat.Store (items_meant items.now)) }
+        ≡ flat.at_most_one false flat.flag_of
+        (texts_under (flat.name_text flat.Store) matches.now) }
 {
-    match lone_text(items, Some(OptionName::Store))? {
+    match lone_text(matches, OptionName::Store.text())? {
         Some(_) => Some(true),
         None => Some(false),
     }
@@ -81,13 +77,13 @@ pub fn store_given(items: &[Item<'_>]) -> Option<bool>
 
 /// The module to be blinded, with the event, where they are given. None where they are given twice,
 /// or not as `M@K`.
-pub fn blind_given(items: &[Item<'_>]) -> Option<Option<(ModId, u64)>>
+pub fn blind_given(matches: &ArgMatches<'_>) -> Option<Option<(ModId, u64)>>
     ensures exact { option_map (λ blind. option_map (λ x. blind_meant x) blind) result
         ≡ flat.at_most_one None flat.blind_of
-        (flat.values_of flat.Blinding (items_meant items.now)) }
+        (texts_under (flat.name_text flat.Blinding) matches.now) }
     ensures range { IfSome result (λ found. IfSome found (λ x. CanBlind (blind_meant x))) }
 {
-    match lone_text(items, Some(OptionName::Blind))? {
+    match lone_text(matches, OptionName::Blind.text())? {
         Some(text) => match read_blind(text.as_bytes()) {
             Some(blind) => Some(Some(blind)),
             None => None,
@@ -122,16 +118,5 @@ fn halves(value: &[u8]) -> Option<(&[u8], &[u8])>
         Some((first, second))
     } else {
         None
-    }
-}
-
-/// Whether an item is of this option, or with None a plain word.
-fn is_of(item: Item<'_>, option: Option<OptionName>) -> bool
-    ensures { text_if result item.entry.text.now ≡ text_in option (item_meant item.entry) }
-{
-    match (item.option, option) {
-        (None, None) => true,
-        (Some(name), Some(other)) => other.is(name),
-        _ => false,
     }
 }
