@@ -1,9 +1,9 @@
 //! What modules that go leave of memory.
-ghost use Rattle.std.specs.Prelude.{◌≡◌, ℕ, ◌+◌, ◌<◌, List, slice_set, true};
+ghost use Rattle.std.specs.Prelude.{◌≡◌, ◌+◌, ◌<◌, List, slice_set, true};
 ghost use Rattle.bn_types.specs.Numbers.{page_at, zero_page};
 ghost use Rattle.bn_types.specs.declared.row.Row.{Row};
 ghost use Rattle.bn_model.specs.Evicting.{page_left, pages_left, rows_left};
-ghost use Rattle.bn_model.specs.Nesting.{IsNested, contents, place};
+ghost use Rattle.bn_model.specs.Nesting.{IsNested, contents};
 ghost use Rattle.bn_model.specs.Owners.{is_owned};
 ghost use Rattle.bn_model.specs.Rows.{owners};
 ghost use Rattle.bn_shadow.specs.Counting.{owners_left};
@@ -45,7 +45,6 @@ impl Unit {
             (contents self.old.nest) }
         ensures live { self.new.live ≡ self.old.live }
         ensures cache { self.new.cache ≡ self.old.cache }
-        ensures places { (page : ℕ) → place self.new.nest page ≡ place self.old.nest page }
         ensures nested { IsNested self.new.nest }
         ensures ram { self.new.nest.ram ≡ self.old.nest.ram }
     {
@@ -64,7 +63,6 @@ impl Unit {
             (page_left gone.now self.old.live page.0 (page_at pages page.0)) }
         ensures live { self.new.live ≡ self.old.live }
         ensures cache { self.new.cache ≡ self.old.cache }
-        ensures places { (page : ℕ) → place self.new.nest page ≡ place self.old.nest page }
         ensures nested { IsNested self.new.nest }
         ensures ram { self.new.nest.ram ≡ self.old.nest.ram }
     {
@@ -84,7 +82,6 @@ impl Unit {
             ≡ slice_set (contents self.old.nest) page.0 zero_page }
         ensures live { self.new.live ≡ self.old.live }
         ensures cache { self.new.cache ≡ self.old.cache }
-        ensures places { (page : ℕ) → place self.new.nest page ≡ place self.old.nest page }
         ensures nested { IsNested self.new.nest }
         ensures ram { self.new.nest.ram ≡ self.old.nest.ram }
         ensures read { steps.new ≡ steps.old + 3 }
