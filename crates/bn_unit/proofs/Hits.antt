@@ -90,7 +90,9 @@ pub walk-leaf : (found : Result Landing WalkFault) (kind : Kind) (mode : Mode) (
     → found ≡ Ok landing
 walk-leaf (Err NoLeaf) kind mode sum mxr landing e = cc
 walk-leaf (Err Refused) kind mode sum mxr landing e = cc
-walk-leaf (Ok leaf) kind mode sum mxr landing e = go (permits leaf kind mode sum mxr) e where
-  go : (b : Bool) → landing_if b leaf kind ≡ Ok landing → Ok leaf ≡ Ok landing
-  go true e = e
-  go false e = cc
+walk-leaf (Ok leaf) kind mode sum mxr landing e =
+    ap (λ (end : Landing). let r : Result Landing WalkFault = Ok end in r)
+    (go (permits leaf kind mode sum mxr) e) where
+      go : (b : Bool) → landing_if b leaf kind ≡ Ok landing → leaf ≡ landing
+      go true e = cc
+      go false e = cc

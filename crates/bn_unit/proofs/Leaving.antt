@@ -26,12 +26,15 @@ first-of xs i x inside is =
     ∙ ap (λ (first : _). first ∷ drop (suc i) xs) (sym is)
     ∙ ap (λ (n : ℕ). x ∷ drop n xs) (sym (add-one i))
 
-pub without-more : (decls : List Decl) (i : ℕ) (decl : Decl) (m now all : Cache)
-    → i < length decls → decl ≡ get_or decls i decl → now ≡ after_drop (touches decl.gpn.0) m
+pub without-more : (decls : List Decl) (i : ℕ) (d : Decl) (m now all : Cache)
+    → i < length decls → now ≡ after_drop (touches (get_or decls i d).gpn.0) m
     → cache_without (drop i decls) m ≡ all → cache_without (drop (i + 1) decls) now ≡ all
-without-more decls i decl m now all inside is dropped e =
+without-more decls i d m now all inside dropped e =
+    let first : drop i decls ≡ get_or decls i d ∷ drop (i + 1) decls =
+    drop-cons decls i d inside
+    ∙ ap (λ (n : ℕ). get_or decls i d ∷ drop n decls) (sym (add-one i)) in
     ap (cache_without (drop (i + 1) decls)) dropped
-    ∙ sym (ap (λ (rest : List Decl). cache_without rest m) (first-of decls i decl inside is)) ∙ e
+    ∙ sym (ap (λ (rest : List Decl). cache_without rest m) first) ∙ e
 
 pub without-all : (decls : List Decl) (i : ℕ) (m all : Cache) → length decls ≤ i
     → cache_without (drop i decls) m ≡ all → m ≡ all
@@ -95,12 +98,12 @@ held-without P (first ∷ decls) m all =
     (held-without (λ slot. P slot × (touches first.gpn.0 slot ≡ false)) decls
     (after_drop (touches first.gpn.0) m)
     (held-dropped P (λ slot. P slot × (touches first.gpn.0 slot ≡ false)) (touches first.gpn.0)
-    (λ slot h no. (h, no)) m all)) where
+    (λ slot h missed. (h, missed)) m all)) where
       by_place : (slot : Slot) → touches first.gpn.0 slot ≡ false → Untouched decls slot
           → (decl : Decl) → (decl ≡ first) ⊎ Has decl decls → touches decl.gpn.0 slot ≡ false
-      by_place slot no others decl (inl is) =
-          ap (λ (d : Decl). touches d.gpn.0 slot) is ∙ no
-      by_place slot no others decl (inr has) = others decl has
+      by_place slot missed others decl (inl is) =
+          ap (λ (d : Decl). touches d.gpn.0 slot) is ∙ missed
+      by_place slot missed others decl (inr has) = others decl has
 
 -- it neither leads to one of the first pages that are left nor was walked through one
 abbrev pub Remains : List Row → List Owner → (count : ℕ) → Slot → Type 0
@@ -140,13 +143,13 @@ held-left P gone live (suc count) m all =
           → AllHeld Is (cache_if b count before)
       go true is h =
           held-dropped Was Is (touches count)
-          (λ slot was no. (was.0, one-more slot (λ left. no) was.1)) before h
+          (λ slot was missed. (was.0, one-more slot (λ left. missed) was.1)) before h
       go false is h =
           held-weaker Was Is
           (λ slot was. (
             was.0,
             one-more slot
-                (λ left. absurd (let no : true ≡ false = sym left ∙ is in cc)) was.1,
+                (λ left. absurd (let clash : true ≡ false = sym left ∙ is in cc)) was.1,
           )) before h
 
 -- it is held for none of the modules that go
@@ -166,11 +169,11 @@ held-others P (row ∷ gone) m all =
     (held-others (λ slot. P slot × (is_of row.id.0 slot ≡ false)) gone
     (after_drop (is_of row.id.0) m)
     (held-dropped P (λ slot. P slot × (is_of row.id.0 slot ≡ false)) (is_of row.id.0)
-    (λ slot h no. (h, no)) m all)) where
+    (λ slot h missed. (h, missed)) m all)) where
       neither : (slot : Slot) → is_of row.id.0 slot ≡ false
           → is_among gone slot.key.«module».0 ≡ false
           → is_among (row ∷ gone) slot.key.«module».0 ≡ false
-      neither slot no others =
+      neither slot missed others =
           let swapped : (row.id.0 == slot.key.«module».0) ≡ (slot.key.«module».0 == row.id.0) =
           grind (arith, nat_tests) in
-          ap (λ (b : Bool). b || is_among gone slot.key.«module».0) (swapped ∙ no) ∙ others
+          ap (λ (b : Bool). b || is_among gone slot.key.«module».0) (swapped ∙ missed) ∙ others

@@ -34,10 +34,10 @@ module _ (live : List Owner) (owner : Owner) where
   owned-more : (page : ℕ) → ((decl : Decl) → Has decl owner.decls.items → (decl.gpn.0 ≡ page → ⊥))
       → is_owned live page ≡ false → is_owned (live ++ owner ∷ []) page ≡ false
   unfolding claims
-  owned-more page apart free = false_from_ne_true _ (λ yes. no (any-has _ _ yes)) where
-    no : ((claim : Claim) × Has claim (claims (live ++ owner ∷ [])) × (is_on page claim ≡ true))
+  owned-more page apart free = false_from_ne_true _ (λ holds. none (any-has _ _ holds)) where
+    none : ((claim : Claim) × Has claim (claims (live ++ owner ∷ [])) × (is_on page claim ≡ true))
         → ⊥
-    no c = by_part (flat_map-has claims_by (live ++ owner ∷ []) c.0 c.1) where
+    none c = by_part (flat_map-has claims_by (live ++ owner ∷ []) c.0 c.1) where
       mine : Has c.0 (claims_by owner) → ⊥
       mine has =
           let made = map-has (claim_by owner.id) owner.decls.items c.0 has in
@@ -50,25 +50,25 @@ module _ (live : List Owner) (owner : Owner) where
           (has-any (is_on page) (claims live) c.0 (has-flat_map claims_by live by c.0 old has) c.2)
       by_whom by has (inr (inl is)) =
           mine (subst (λ (o : Owner). Has c.0 (claims_by o)) is has)
-      by_whom by has (inr (inr none)) = absurd none
+      by_whom by has (inr (inr more)) = absurd more
 
       by_part : ((by : Owner) × Has by (live ++ owner ∷ []) × Has c.0 (claims_by by)) → ⊥
       by_part found = by_whom found.0 found.2 (append-has live (owner ∷ []) found.0 found.1)
 
   live-more : (id : ℕ) → is_live live id ≡ true → is_live (live ++ owner ∷ []) id ≡ true
-  live-more id yes =
+  live-more id lives =
       list_any-append (is_module id) live (owner ∷ [])
-      ∙ ap (λ (b : Bool). b || list_any (is_module id) (owner ∷ [])) yes
+      ∙ ap (λ (b : Bool). b || list_any (is_module id) (owner ∷ [])) lives
 
   known-more : (id : ℕ) → is_known live id ≡ true → is_known (live ++ owner ∷ []) id ≡ true
-  known-more zero yes = refl
-  known-more (suc id) yes = live-more (suc id) yes
+  known-more zero lives = refl
+  known-more (suc id) lives = live-more (suc id) lives
 
   backed-more : (sort : Sort) (source : ℕ) → is_backed live sort source ≡ true
       → is_backed (live ++ owner ∷ []) sort source ≡ true
-  backed-more Private source yes = refl
-  backed-more Offer source yes = refl
-  backed-more Accept source yes = live-more source yes
+  backed-more Private source lives = refl
+  backed-more Offer source lives = refl
+  backed-more Accept source lives = live-more source lives
 
   declares-more : is_live live owner.id.0 ≡ false → (id vpn : ℕ) → is_known live id ≡ true
       → declaration (live ++ owner ∷ []) id vpn ≡ declaration live id vpn
@@ -116,3 +116,10 @@ module _ (live : List Owner) (owner : Owner) where
       (λ slot h. kept-entered nest new slot h.0 h.1)
       (cache_without owner.decls.items m)
       (held-without (IsRight nest live) owner.decls.items m all)
+
+pub held-owning : (live : List Owner) (owner : Owner) (nest : Nested) (m now : Cache)
+    (new : List Owner) (decls : List Decl) → new ≡ live ++ owner ∷ [] → decls ≡ owner.decls.items
+    → now ≡ cache_without decls m → is_live live owner.id.0 ≡ false
+    → AllHeld (IsRight nest live) m → AllHeld (IsRight nest new) now
+held-owning live owner nest m now new decls is same dropped other all =
+    rw (is, dropped, same) (all-entered live owner nest m other all)

@@ -66,7 +66,7 @@ landing-tables tables (Err fault) leaf e = absurd cc
 none-any : {X : Type 0} (p : X → Bool) (xs : List X) → list_any p xs ≡ false
     → All (λ (x : X). p x ≡ false) xs
 none-any p xs none = λ k d below. false_from_ne_true _
-    (λ yes. both_ways (list_any p xs) none (list_any_at p xs k d below yes))
+    (λ holds. both_ways (list_any p xs) none (list_any_at p xs k d below holds))
 
 module _ (nest : Nested) (live : List Owner) (slot : Slot) (h : IsRight nest live slot) where
   tables-free : AllFree (visible (nested_memory nest live)) slot.entry.tables.items
@@ -88,10 +88,10 @@ module _ (nest : Nested) (live : List Owner) (slot : Slot) (h : IsRight nest liv
     go (inl inside) false e = (inside, e)
     go (inl inside) true e =
         let owned = state-owned nest live page inside e in
-        absurd (let no : Free ≡ Owned = sym free ∙ owned in cc)
+        absurd (let clash : Free ≡ Owned = sym free ∙ owned in cc)
     go (inr past) b e =
         let outside = state-past_ram nest live page past in
-        absurd (let no : Free ≡ Outside = sym free ∙ outside in cc)
+        absurd (let clash : Free ≡ Outside = sym free ∙ outside in cc)
 
   -- ---- the same modules, and another page's bytes
 
@@ -121,9 +121,9 @@ module _ (nest : Nested) (live : List Owner) (slot : Slot) (h : IsRight nest liv
           (apart k d below))
 
     pub kept-unwalked : is_walked p slot ≡ false → IsRight new live slot
-    kept-unwalked no =
+    kept-unwalked missed =
         kept-apart (λ k d below e.
-        both_ways _ (none-any (is_page p) slot.entry.tables.items no k d below)
+        both_ways _ (none-any (is_page p) slot.entry.tables.items missed k d below)
         (eq-eqb (get_or slot.entry.tables.items k d).0 p e))
 
     pub kept-owned : is_owned live p ≡ true → IsRight new live slot
@@ -156,27 +156,27 @@ module _ (nest : Nested) (live : List Owner) (slot : Slot) (h : IsRight nest liv
         ∙ sym (seen-inside (nested_memory nest now) table false inside
         (tables k d below parts.1))
 
-    id : ℕ
+    abbrev id : ℕ
     id = slot.key.«module».0
 
-    to : ℕ
+    abbrev to : ℕ
     to = slot.entry.page.0
 
     -- what is admitted to a page without a declaration
     undeclared : (some : Kind) → (not (is_owned live to) && may_leave id some) ≡ true
         → (kind : Kind) → (not (is_owned now to) && may_leave id kind)
         ≡ (not (is_owned live to) && may_leave id kind)
-    undeclared some yes kind =
-        let free = not-true (is_owned live to) (and_parts (not (is_owned live to)) _ yes).0 in
+    undeclared some allowed kind =
+        let free = not-true (is_owned live to) (and_parts (not (is_owned live to)) _ allowed).0 in
         ap (λ (b : Bool). not b && may_leave id kind) (page free ∙ sym free)
 
     by_decl : (declared : Option Decl)
         → declaration live id slot.key.vpn.0 ≡ declared → (some : Kind)
         → admits_by live id to some declared ≡ true
         → (kind : Kind) → admits_by now id to kind declared ≡ admits_by live id to kind declared
-    by_decl None is some yes kind = undeclared some yes kind
-    by_decl (Some decl) is some yes kind =
-        let parts = three-true _ _ _ yes in
+    by_decl None is some allowed kind = undeclared some allowed kind
+    by_decl (Some decl) is some allowed kind =
+        let parts = three-true _ _ _ allowed in
         let backed = backs decl is (eqb-at decl parts.0) parts.2 in
         ap (λ (b : Bool). (decl.gpn.0 == to) && has_right kind decl.rights && b)
         (backed ∙ sym parts.2) where
@@ -218,7 +218,7 @@ module _ (nest : Nested) (live : List Owner) (new : Nested) (p : ℕ) (bytes : L
   held-written now dropped all =
       subst (AllHeld (IsRight new live)) (sym dropped)
       (held-dropped (IsRight nest live) (IsRight new live) (is_walked p)
-      (λ slot h no. kept-unwalked nest live slot h new p bytes written ram places no) m all)
+      (λ slot h missed. kept-unwalked nest live slot h new p bytes written ram places missed) m all)
 
   pub held-owned : is_owned live p ≡ true → AllHeld (IsRight nest live) m
       → AllHeld (IsRight new live) m

@@ -22,7 +22,7 @@ impl Unit {
     /// that module's own. Each translation, of any hart, leaves that leads to one of the zeroed
     /// pages or whose walk read one, and each that is held for one of the modules.
     pub fn release<L: Ledger>(&mut self, gone: &[Row], steps: &mut Steps<L>)
-        requires { AreOffered self.old.live }
+        requires offered { AreOffered self.old.live }
         ensures pages { contents self.new.nest ≡ pages_left gone.now self.old.live
             (contents self.old.nest) }
         ensures live { (rows : List Row) → self.old.live ≡ owners rows

@@ -4,8 +4,8 @@ use Rattle.bn_unit.proofs.unit.drop_pages.Goals as goal
 
 pub loop-decl-preserved : goal.loop-decl-preserved
 loop-decl-preserved c =
-    without-more c.args.decls.now c.loop-decl.decl-index c.decl-item.result c.loop-decl.tlb _ _
-    c.loop-decl-test.true c.decl-item.is c.drop_page.ensures c.loop-decl.invariant
+    without-more c.args.decls.now c.loop-decl.decl-index _ c.loop-decl.tlb _ _
+    c.loop-decl-test.true c.drop_page.ensures c.loop-decl.invariant
 
 pub returns : goal.returns
 returns c =
