@@ -17,8 +17,9 @@ use Rattle.bn_tlb.specs.declared.entry.Entry.{Entry}
 use Rattle.bn_tlb.specs.declared.key.Key.{Key}
 use Rattle.bn_tlb.specs.declared.slot.Slot.{Slot}
 use Rattle.bn_tlb.specs.Caching.{Cache, after_fill}
-use Rattle.bn_unit.specs.Holding.{AllHeld, IsRight, is_known, key_of, nested_memory}
-use Rattle.bn_unit.proofs.HeldSlots.{held-filled}
+use Rattle.bn_tlb.specs.Caching.{AllHeld}
+use Rattle.bn_unit.specs.Holding.{IsRight, is_known, key_of, nested_memory}
+use Rattle.bn_tlb.proofs.HeldSlots.{held-filled}
 use Rattle.bn_unit.proofs.LeafPages.{leaf-page}
 use Rattle.g_walk.specs.Answers.{landing}
 use Rattle.g_walk.specs.declared.found.Leaf.{Leaf}

@@ -26,8 +26,9 @@ use Rattle.bn_shadow.specs.Counting.{is_left, owners_left}
 use Rattle.bn_tlb.specs.Caching.{Cache, is_walked, leads_to}
 use Rattle.bn_tlb.specs.declared.slot.Slot.{Slot}
 use Rattle.bn_unit.specs.Dropping.{AreOffered, cache_left, cache_of_others, is_left_by}
-use Rattle.bn_unit.specs.Holding.{AllHeld, IsRight, is_known}
-use Rattle.bn_unit.proofs.HeldSlots.{held-weaker}
+use Rattle.bn_tlb.specs.Caching.{AllHeld}
+use Rattle.bn_unit.specs.Holding.{IsRight, is_known}
+use Rattle.bn_tlb.proofs.HeldSlots.{held-weaker}
 use Rattle.bn_unit.proofs.Leaving.{Remains, held-left, held-others}
 use Rattle.bn_unit.proofs.Rightness.{kept-live}
 

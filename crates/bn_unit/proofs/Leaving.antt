@@ -14,8 +14,8 @@ use Rattle.bn_model.specs.Soundness.{Has}
 use Rattle.bn_tlb.specs.Caching.{Cache, after_drop, is_of, touches}
 use Rattle.bn_tlb.specs.declared.slot.Slot.{Slot}
 use Rattle.bn_unit.specs.Dropping.{cache_if, cache_left, cache_of_others, cache_without, is_left_by}
-use Rattle.bn_unit.specs.Holding.{AllHeld}
-use Rattle.bn_unit.proofs.HeldSlots.{held-dropped, held-weaker}
+use Rattle.bn_tlb.specs.Caching.{AllHeld}
+use Rattle.bn_tlb.proofs.HeldSlots.{held-dropped, held-weaker}
 
 -- ---- one more
 

@@ -1,7 +1,6 @@
 pub mod Devices
 pub mod Entering
 pub mod Evictions
-pub mod HeldSlots
 pub mod Hits
 pub mod LeafPages
 pub mod Leaving

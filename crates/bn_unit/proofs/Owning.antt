@@ -21,8 +21,9 @@ use Rattle.bn_model.proofs.TestLemmas.{find-push}
 use Rattle.bn_tlb.specs.Caching.{Cache, is_page, is_walked, leads_to, touches}
 use Rattle.bn_tlb.specs.declared.slot.Slot.{Slot}
 use Rattle.bn_unit.specs.Dropping.{cache_without}
-use Rattle.bn_unit.specs.Holding.{AllHeld, IsRight, is_known}
-use Rattle.bn_unit.proofs.HeldSlots.{held-weaker}
+use Rattle.bn_tlb.specs.Caching.{AllHeld}
+use Rattle.bn_unit.specs.Holding.{IsRight, is_known}
+use Rattle.bn_tlb.proofs.HeldSlots.{held-weaker}
 use Rattle.bn_unit.proofs.Leaving.{Untouched, held-without}
 use Rattle.bn_unit.proofs.Rightness.{kept-live}
 

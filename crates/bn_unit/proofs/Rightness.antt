@@ -32,9 +32,10 @@ use Rattle.bn_model.proofs.VisiblePages.{seen-inside, state-owned, state-past_ra
 use Rattle.bn_model.proofs.WalkFacts.{leaf-local, walked-free}
 use Rattle.bn_tlb.specs.Caching.{Cache, after_drop, is_page, is_walked}
 use Rattle.bn_tlb.specs.declared.slot.Slot.{Slot}
-use Rattle.bn_unit.specs.Holding.{AllHeld, IsRight, is_known, landing_held, nested_memory}
+use Rattle.bn_tlb.specs.Caching.{AllHeld}
+use Rattle.bn_unit.specs.Holding.{IsRight, is_known, landing_held, nested_memory}
 use Rattle.bn_unit.specs.Memory.{AllPlaced}
-use Rattle.bn_unit.proofs.HeldSlots.{held-dropped, held-weaker}
+use Rattle.bn_tlb.proofs.HeldSlots.{held-dropped, held-weaker}
 
 -- ---- a page that is written
 

@@ -1,7 +1,6 @@
 -- The translations that harts hold: when they are right, and what an access makes of them.
 use Rattle.std.specs.Prelude.{◌≡◌, ℕ, zero, suc, ◌+◌, ◌%◌, ◌<◌, Bool, true, false, List, [], Option}
 use Rattle.std.specs.Prelude.{Some, None, Result, Ok, Err}
-use Rattle.std.specs.List.{All}
 use Rattle.std.specs.Option.{is_some}
 use Rattle.bn_types.specs.declared.asker.Asker.{Asker}
 use Rattle.bn_types.specs.declared.fault.Fault.{Fault}
@@ -55,10 +54,6 @@ pub record IsRight (nest : Nested) (live : List Owner) (slot : Slot) : Type 0 wh
   pub some : (kind : Kind) × (has_right kind slot.entry.rights ≡ true)
   -- the key's module is the untrusted world or lives
   pub known : is_known live slot.key.«module».0 ≡ true
-
--- a fact of each translation that is held
-abbrev pub AllHeld : (Slot → Type 0) → Cache → Type 0
-AllHeld P m = All (λ (slots : List Slot). All P slots) m.sets
 
 -- ---- keys
 

@@ -11,7 +11,8 @@ use Rattle.bn_model.specs.declared.owner.Owner.{Owner}
 use Rattle.bn_model.specs.Memory.{Memory}
 use Rattle.bn_model.specs.Nesting.{Nested, contents, place}
 use Rattle.bn_tlb.specs.Caching.{Cache}
-use Rattle.bn_unit.specs.Holding.{AllHeld, IsRight}
+use Rattle.bn_tlb.specs.Caching.{AllHeld}
+use Rattle.bn_unit.specs.Holding.{IsRight}
 use Rattle.bn_unit.specs.declared.spot.Spot.{Spot}
 
 -- what stands behind a unit

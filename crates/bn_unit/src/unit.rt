@@ -16,7 +16,8 @@ ghost use Rattle.bn_model.specs.Walking.{guest_page, tables_read, vpn_of, walk_o
 ghost use Rattle.bn_shadow.specs.Counting.{LieInRam};
 ghost use Rattle.bn_tlb.specs.Caching.{after_drop, empty_cache, is_walked};
 ghost use Rattle.bn_unit.specs.Dropping.{cache_without};
-ghost use Rattle.bn_unit.specs.Holding.{AllHeld, IsAfterAccess, IsAfterStore, IsRight, is_held};
+ghost use Rattle.bn_tlb.specs.Caching.{AllHeld};
+ghost use Rattle.bn_unit.specs.Holding.{IsAfterAccess, IsAfterStore, IsRight, is_held};
 ghost use Rattle.bn_unit.specs.Holding.{is_known, words_if_missed};
 ghost use Rattle.bn_unit.specs.Memory.{AllPlaced, Completes, IsSpot, IsWithin, at_offset};
 ghost use Rattle.bn_unit.specs.Memory.{memory_of, place_at, seen_of};

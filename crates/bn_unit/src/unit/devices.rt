@@ -27,8 +27,11 @@ impl Unit {
         if !self.is_seen(page) {
             return None;
         }
-        let frame = self.frame_of(page, steps);
-        Some(self.read(Place { page, offset }, frame, Width::B1) as u8)
+        Some(self.read(
+            Place { page, offset },
+            self.frame_of(page, steps),
+            Width::B1,
+        ) as u8)
     }
 
     /// Writes the byte at the offset, below 4,096, of a page of RAM that no live module owns, at a

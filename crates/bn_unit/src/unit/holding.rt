@@ -8,7 +8,8 @@ ghost use Rattle.bn_model.specs.CsrFile.{HasMode};
 ghost use Rattle.bn_model.specs.Memory.{visible};
 ghost use Rattle.bn_model.specs.Walking.{guest_page, leaf_of, tables_read, vpn_of};
 ghost use Rattle.bn_tlb.specs.Caching.{found};
-ghost use Rattle.bn_unit.specs.Holding.{AllHeld, IsEntered, IsRight, is_held, is_known, key_of};
+ghost use Rattle.bn_tlb.specs.Caching.{AllHeld};
+ghost use Rattle.bn_unit.specs.Holding.{IsEntered, IsRight, is_held, is_known, key_of};
 ghost use Rattle.bn_unit.specs.Memory.{IsSpot, memory_of, place_at};
 ghost use Rattle.g_walk.specs.Answers.{landing};
 

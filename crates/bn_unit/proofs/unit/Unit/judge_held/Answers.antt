@@ -3,7 +3,7 @@ use Rattle.std.specs.Option.{option_copied}
 use Rattle.bn_tlb.specs.Caching.{found}
 use Rattle.bn_tlb.specs.declared.key.Key.{Key}
 use Rattle.bn_unit.specs.Holding.{IsRight, key_of}
-use Rattle.bn_unit.proofs.HeldSlots.{held-found}
+use Rattle.bn_tlb.proofs.HeldSlots.{held-found}
 use Rattle.bn_unit.proofs.Hits.{place-right, spot-right}
 use Rattle.bn_unit.proofs.unit.Unit.judge_held.Goals as goal
 

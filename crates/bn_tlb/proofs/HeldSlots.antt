@@ -17,10 +17,9 @@ use Rattle.bn_model.proofs.TestLemmas.{find-passes}
 use Rattle.bn_tlb.specs.declared.entry.Entry.{Entry}
 use Rattle.bn_tlb.specs.declared.key.Key.{Key}
 use Rattle.bn_tlb.specs.declared.slot.Slot.{Slot}
-use Rattle.bn_tlb.specs.Caching.{Cache, after_drop, after_fill, empty_cache, entry_if, filled, found}
+use Rattle.bn_tlb.specs.Caching.{AllHeld, Cache, after_drop, after_fill, empty_cache, entry_if, filled, found}
 use Rattle.bn_tlb.specs.Caching.{held, is_at, is_key, set_number, set_of, stays, with_room}
 use Rattle.bn_tlb.specs.Caching.{with_room_if, without}
-use Rattle.bn_unit.specs.Holding.{AllHeld}
 
 -- each translation of each set
 abbrev pub AllIn : (Slot → Type 0) → List Slot → Type 0
