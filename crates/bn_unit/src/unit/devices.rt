@@ -57,6 +57,7 @@ impl Unit {
         ensures free { self.new.nest.free ≡ self.old.nest.free }
         ensures cache { self.new.cache
             ≡ after_poke (slice_get (visible (memory_of self.old)) page.0) page.0 self.old.cache }
+        ensures harts { self.new.cache.harts ≡ self.old.cache.harts }
         ensures read { steps.new ≡ steps.old
             + words_seen (slice_get (visible (memory_of self.old)) page.0) }
         ensures few { steps.new ≤ steps.old + 3 }
