@@ -10,3 +10,4 @@ pub mod Switches
 pub mod Storing
 pub mod Turns
 pub mod ZeroedPages
+pub mod Askers

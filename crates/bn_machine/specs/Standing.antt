@@ -23,11 +23,13 @@ abbrev pub standing : Parts → Standing
 standing parts = record { parts = parts; state = state_of parts }
 
 -- the nested tables lead as their placement says, the memory unit knows what the live modules
--- declare, and there is a hart
+-- declare, there is a hart, and the memory unit knows how many there are
 pub record HasParts (unit : Backing) (rows : List Row) (harts : List Hart) : Type 0 where
   pub nested : IsNested unit.nest
   pub owned : unit.live ≡ owners rows
   pub some : 0 < length harts
+  -- each hart holds translations of its own
+  pub held : unit.cache.harts ≡ length harts
 
 -- there is room for a launched module and an id, and its pages lie in RAM
 pub record HasRoomFor (s : State) (judged : Judged) : Type 0 where

@@ -66,6 +66,7 @@ impl Engine {
     pub(crate) fn of(unit: Unit, harts: Vec<Hart>, store: Store) -> Engine
         requires some { 0 < length harts.items }
         requires unowned { unit.live ≡ [] }
+        requires held { unit.cache.harts ≡ length harts.items }
         ensures nest { result.parts.nest ≡ unit.nest }
         ensures state { result.state ≡ record {
           pages = contents unit.nest;

@@ -2,3 +2,4 @@ mod devices;
 mod memory_unit;
 mod sizes;
 mod stored_words;
+mod translations;

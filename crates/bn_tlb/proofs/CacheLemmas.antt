@@ -1,7 +1,7 @@
 -- What always holds of a cache holds after a fill and after a drop.
 use Rattle.std.proofs.Common.{◌≡◌, ℕ, zero, suc, ◌<◌, Bool, List, [], ◌∷◌}
 use Rattle.std.proofs.Common.{length, map, get_or, set, ◌⊎◌, inl, inr, refl, sym, ap, ◌∙◌, arith}
-use Rattle.std.proofs.Common.{None}
+use Rattle.std.proofs.Common.{None, subst}
 use Rattle.std.proofs.lemmas.Bool.{cases_eq}
 use Rattle.std.proofs.lemmas.List.{get_or_default, get_or-set_other, get_or-set_same}
 use Rattle.std.proofs.lemmas.List.{length-map, length-set}
@@ -64,16 +64,25 @@ cache_after_fill m hart slot h below new = record {
       (h.sets other place lies)
 
 -- the same, of the set as it was read and written
-pub cache_filled : (m : Cache) (hart number : ℕ) (slot : Slot) (was now : List Slot) → IsCache m
-    → hart < m.harts → found m hart slot.key ≡ None
-    → number ≡ set_number hart (set_of slot.key)
+pub sets_filled : (m : Cache) (hart number : ℕ) (slot : Slot) (was now : List Slot) → IsCache m
+    → hart < m.harts → number ≡ set_number hart (set_of slot.key)
     → was ≡ get_or m.sets number was → now ≡ filled slot was
-    → IsCache (record m { sets = set m.sets number now })
-cache_filled m hart number slot was now h below new place read written =
-    rw (place, written, same) (cache_after_fill m hart slot h below new) where
+    → set m.sets number now ≡ (after_fill m hart slot).sets
+sets_filled m hart number slot was now h below place read written =
+    rw (place, written, same) refl where
       inside : number < length m.sets
       inside = omega (arith, place, h.size, below)
 
       same : was ≡ held m hart (set_of slot.key)
       same = read ∙ get_or_default m.sets number was [] inside
           ∙ ap (λ (i : ℕ). get_or m.sets i []) place
+
+pub cache_filled : (m : Cache) (hart number : ℕ) (slot : Slot) (was now : List Slot) → IsCache m
+    → hart < m.harts → found m hart slot.key ≡ None
+    → number ≡ set_number hart (set_of slot.key)
+    → was ≡ get_or m.sets number was → now ≡ filled slot was
+    → IsCache (record m { sets = set m.sets number now })
+cache_filled m hart number slot was now h below new place read written =
+    subst (λ (sets : List (List Slot)). IsCache (record m { sets = sets }))
+    (sym (sets_filled m hart number slot was now h below place read written))
+    (cache_after_fill m hart slot h below new)

@@ -1,3 +1,5 @@
 pub mod CacheLemmas
 pub mod MapSteps
 pub mod SetLemmas
+pub mod HeldSlots
+pub mod MarkLemmas

@@ -99,6 +99,10 @@ after_drop leaves m = record m { sets = map (without leaves) m.sets }
 
 -- ---- what always holds
 
+-- a fact of each translation that is held
+abbrev pub AllHeld : (Slot → Type 0) → Cache → Type 0
+AllHeld P m = All (λ (slots : List Slot). All P slots) m.sets
+
 -- no key is held twice
 abbrev pub HeldOnce : List Slot → Type 0
 HeldOnce [] = ⊤

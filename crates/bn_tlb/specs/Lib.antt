@@ -1,2 +1,3 @@
 pub mod Caching
+pub mod Marking
 pub mod Sweeping

@@ -8,6 +8,7 @@ pub use tlb::Tlb;
 mod entry;
 mod key;
 mod leaving;
+mod marks;
 mod set;
 mod slot;
 #[cfg(test)]

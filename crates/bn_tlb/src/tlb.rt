@@ -5,6 +5,7 @@ ghost use Rattle.bn_tlb.specs.Caching.{is_walked, set_number, touches, without};
 ghost use Rattle.bn_tlb.specs.Sweeping.{leaves};
 
 use crate::leaving::Leaving;
+use crate::marks::{clear, is_marked, mark_all, no_marks};
 use crate::set::Set;
 use crate::slot::Slot;
 use crate::{Entry, Key};
@@ -18,16 +19,20 @@ use std::marker::Model;
 pub struct Tlb {
     sets: Vec<Set>,
     harts: u8,
+    /// For each page whether the walk of one of them may have read it.
+    marks: Vec<bool>,
 }
 
 impl Model for Tlb {
-    ghost use Rattle.bn_tlb.specs.Caching.{Cache, IsCache};
+    ghost use Rattle.bn_tlb.specs.Caching.{Cache};
+    ghost use Rattle.bn_tlb.specs.Marking.{IsKept};
 
     ghost Value = { Cache };
 
     ghost view = { λ t. record { harts = t.harts; sets = t.sets.items } };
 
-    ghost invariant = { λ t. IsCache (record { harts = t.harts; sets = t.sets.items }) };
+    ghost invariant = { λ t. IsKept (record { harts = t.harts; sets = t.sets.items })
+        t.marks.items };
 }
 
 impl Tlb {
@@ -45,7 +50,8 @@ impl Tlb {
         ensures { IfOk result (λ tlb. tlb ≡ empty_cache harts) }
     {
         let sets = empty_sets(alloc, 64 * usize::from(harts))?;
-        Ok(Tlb { sets, harts })
+        let marks = no_marks(alloc)?;
+        Ok(Tlb { sets, harts, marks })
     }
 
     /// The translation that a hart holds at the key.
@@ -64,15 +70,27 @@ impl Tlb {
         requires new { found self.old hart key ≡ None }
         ensures { self.new ≡ after_fill self.old hart (record { key = key; entry = entry }) }
     {
+        mark_all(&mut self.marks, &entry.tables);
         let number = number_of(hart, key.vpn);
         self.sets[number].fill(Slot { key, entry });
     }
 
     /// Drops, on all harts, each translation whose walk read the page.
+    #[inline(always)]
     pub fn drop_walks(&mut self, page: Gpn)
         ensures { self.new ≡ after_drop (is_walked page.0) self.old }
     {
-        self.sweep(&Leaving::Walked(page));
+        if is_marked(&self.marks, page) {
+            self.sweep_walks(page);
+        }
+    }
+
+    #[inline(never)]
+    fn sweep_walks(&mut self, page: Gpn)
+        ensures { self.new ≡ after_drop (is_walked page.0) self.old }
+    {
+        sweep_sets(&mut self.sets, &Leaving::Walked(page));
+        clear(&mut self.marks, page);
     }
 
     /// Drops, on all harts, each translation that leads to the page or whose walk read it.

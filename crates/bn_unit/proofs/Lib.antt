@@ -1,2 +1,9 @@
 pub mod Devices
+pub mod Entering
+pub mod Evictions
+pub mod Hits
+pub mod LeafPages
+pub mod Leaving
+pub mod Owning
 pub mod Releasing
+pub mod Rightness

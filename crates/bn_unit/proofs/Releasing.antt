@@ -7,7 +7,12 @@ use Rattle.bn_types.specs.Numbers.{page_at}
 use Rattle.bn_types.specs.declared.row.Row.{Row}
 use Rattle.bn_model.specs.declared.owner.Owner.{Owner}
 use Rattle.bn_model.specs.Each.{each}
-use Rattle.bn_model.specs.Evicting.{page_left, pages_left}
+use Rattle.std.proofs.Common.{◌&&◌, true}
+use Rattle.std.proofs.lemmas.Bool.{and_parts}
+use Rattle.std.specs.List.{list_any}
+use Rattle.bn_model.specs.Evicting.{is_among, is_given_up, page_left, pages_left}
+use Rattle.bn_model.specs.Owners.{claims, is_on, is_own, is_owned}
+use Rattle.bn_model.proofs.MembershipLemmas.{any-implies}
 use Rattle.bn_model.proofs.EachLemmas.{get_or-each, length-each}
 use Rattle.bn_model.proofs.MixedLists.{mixed, mixed_all, set-mixed}
 
@@ -45,3 +50,12 @@ unfolding pages_left
 left-all gone live old now n size e =
     e ∙ mixed_all n (each (page_left gone live) 0 old) old
     (length-each (page_left gone live) 0 old ∙ sym size) (sym size)
+
+-- a page that is given up is owned
+pub given-owned : (gone : List Row) (page : ℕ) (live : List Owner)
+    → list_any (is_given_up gone page) (claims live) ≡ true → is_owned live page ≡ true
+given-owned gone page live given =
+    any-implies (is_given_up gone page) (is_on page)
+    (λ claim yes.
+    (and_parts (is_among gone claim.owner.0 && is_own claim.decl.sort) (is_on page claim) yes).1)
+    (claims live) given

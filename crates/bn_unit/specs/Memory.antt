@@ -2,19 +2,18 @@
 use Rattle.std.specs.Prelude.{◌≡◌, ◌≢◌, ℕ, ◌%◌, ◌<◌, Bool, true, false, List, Option, Some, None}
 use Rattle.std.specs.Prelude.{Result, Ok, Err}
 use Rattle.bn_types.specs.Numbers.{bytes_of, number_at}
-use Rattle.bn_types.specs.declared.asker.Asker.{Asker}
-use Rattle.bn_types.specs.declared.cause.Cause.{Cause}
 use Rattle.bn_types.specs.declared.fault.Fault.{Fault}
 use Rattle.bn_types.specs.declared.gpn.Gpn.{Gpn}
-use Rattle.bn_types.specs.declared.kind.Kind.{Kind}
 use Rattle.bn_types.specs.declared.width.Width.{Width}
 use Rattle.bn_types.specs.declared.width.Width.TheVariants.{B1}
 use Rattle.bn_model.specs.declared.place.Place.{Place}
 use Rattle.bn_model.specs.declared.owner.Owner.{Owner}
-use Rattle.bn_model.specs.Accessing.{fault, place_on}
 use Rattle.bn_model.specs.Memory.{Memory}
 use Rattle.bn_model.specs.Nesting.{Nested, contents, place}
-use Rattle.bn_model.specs.Walking.{Landing, guest_page}
+use Rattle.bn_tlb.specs.Caching.{Cache}
+use Rattle.bn_tlb.specs.Caching.{AllHeld}
+use Rattle.bn_unit.specs.Holding.{IsRight}
+use Rattle.bn_unit.specs.declared.spot.Spot.{Spot}
 
 -- what stands behind a unit
 pub record Backing : Type 0 where
@@ -22,19 +21,36 @@ pub record Backing : Type 0 where
   pub nest : Nested
   -- the live modules, with what they declare
   pub live : List Owner
+  -- the translations that the harts hold
+  pub cache : Cache
 
 -- the guest's memory
 abbrev pub memory_of : Backing → Memory
 memory_of b = record { pages = contents b.nest; owners = b.live }
 
+-- what stands behind a view of the guest's pages
+pub record Seen : Type 0 where
+  pub nest : Nested
+  pub live : List Owner
+
+abbrev pub memory_seen : Seen → Memory
+memory_seen v = record { pages = contents v.nest; owners = v.live }
+
+-- the view of a unit's pages
+abbrev pub seen_of : Backing → Seen
+seen_of b = record { nest = b.nest; live = b.live }
+
 -- every page of RAM has a frame
 abbrev pub AllPlaced : Nested → Type 0
 AllPlaced nest = (page : ℕ) → page < nest.ram → place nest page ≢ None
 
--- every page has a frame, and the index of owners has a place for each
-pub record IsBacked (nest : Nested) (indexed : ℕ) : Type 0 where
+-- every page has a frame, the index of owners has a place for each, and each translation that is
+-- held is right
+pub record IsBacked (nest : Nested) (indexed : ℕ) (live : List Owner) (cache : Cache) : Type
+    0 where
   pub placed : AllPlaced nest
   pub indexes : indexed ≡ nest.ram
+  pub right : AllHeld (IsRight nest live) cache
 
 -- what can be read of a page: its bytes, or nothing
 abbrev pub bytes_if : Bool → List ℕ → Option (List ℕ)
@@ -80,12 +96,12 @@ abbrev pub at_offset : ℕ → Result Gpn Fault → Result Place Fault
 at_offset va (Ok page) = Ok (record { page = page; offset = va % 4096 })
 at_offset va (Err fault) = Err fault
 
--- the physical page that a walk finds
-abbrev pub page_found : Result Landing Cause → Result ℕ Cause
-page_found (Ok landing) = Ok landing.ppn
-page_found (Err cause) = Err cause
+-- the place of an address in a page whose frame was found
+abbrev pub place_at : ℕ → Result Spot Fault → Result Place Fault
+place_at va (Ok spot) = Ok (record { page = spot.page; offset = va % 4096 })
+place_at va (Err fault) = Err fault
 
--- where a physical page leads
-abbrev pub place_by_page : Memory → Asker → Kind → ℕ → Result ℕ Cause → Result Place Fault
-place_by_page m who kind va (Ok ppn) = place_on m who kind va (guest_page ppn)
-place_by_page m who kind va (Err cause) = fault cause va
+-- a page of RAM with its frame
+pub record IsSpot (nest : Nested) (spot : Spot) : Type 0 where
+  pub inside : spot.page.0 < nest.ram
+  pub frame : place nest spot.page.0 ≡ Some spot.frame

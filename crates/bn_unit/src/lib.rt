@@ -2,10 +2,13 @@
 //! nested tables that lie in the machine's frames.
 #![tactic(auto)]
 
+pub use bn_tlb::Key;
 pub use bn_types::Asker;
 pub use unit::Unit;
 pub use view::View;
 
+mod judging;
+mod spot;
 #[cfg(test)]
 mod tests;
 mod unit;

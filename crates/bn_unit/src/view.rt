@@ -5,7 +5,7 @@ ghost use Rattle.bn_types.specs.Numbers.{page_at};
 ghost use Rattle.bn_model.specs.Memory.{visible};
 ghost use Rattle.bn_model.specs.Nesting.{contents, place};
 ghost use Rattle.bn_model.specs.Owners.{is_owned};
-ghost use Rattle.bn_unit.specs.Memory.{bytes_if, memory_of, words_if};
+ghost use Rattle.bn_unit.specs.Memory.{bytes_if, memory_seen, words_if};
 
 use bn_shadow::Shadow;
 use bn_types::{Frame, Gpn, PageState, Pages, Steps, Width};
@@ -21,9 +21,9 @@ pub struct View<'a> {
 }
 
 impl<'a> Model for View<'a> {
-    ghost use Rattle.bn_unit.specs.Memory.{Backing};
+    ghost use Rattle.bn_unit.specs.Memory.{Seen};
 
-    ghost Value = { Backing };
+    ghost Value = { Seen };
 
     ghost view = { λ v. record { nest = v.nest.now; live = v.shadow.now.live } };
 }
@@ -42,7 +42,7 @@ impl<'a> View<'a> {
     pub fn read_page<L: Ledger>(&self, page: Gpn, bytes: &mut [u8], steps: &mut Steps<L>) -> bool
         requires room { length bytes.old ≡ 4096 }
         ensures bytes { bytes_if result bytes.new ≡ slice_index_or
-            (visible (memory_of self.now)) page.0 None }
+            (visible (memory_seen self.now)) page.0 None }
         ensures room { length bytes.new ≡ 4096 }
         ensures read { steps.new ≡ steps.old + words_if result }
     {
@@ -67,9 +67,9 @@ impl<'a> View<'a> {
 
 impl Pages for View<'_> {
     ghost use Rattle.bn_model.specs.Memory.{visible as seen};
-    ghost use Rattle.bn_unit.specs.Memory.{memory_of};
+    ghost use Rattle.bn_unit.specs.Memory.{memory_seen};
 
-    ghost visible = { λ v. seen (memory_of v) };
+    ghost visible = { λ v. seen (memory_seen v) };
 
     fn state(&self, page: Gpn) -> PageState {
         if page.0 >= self.nest.ram_pages() {

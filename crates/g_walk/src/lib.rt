@@ -4,7 +4,7 @@
 pub use access::walk;
 pub use fault::LeafFault;
 pub use found::Leaf;
-pub use permission::permit;
+pub use permission::{permit, permit_by_flags};
 pub use structure::leaf;
 
 mod access;

@@ -12,13 +12,17 @@ use bn_types::{Kind, Mode};
 pub fn permit(leaf: &Leaf, kind: Kind, mode: Mode, sum: bool, mxr: bool) -> bool
     ensures { result ≡ walking.permits (landing leaf.now) kind mode sum mxr }
 {
-    leaf.bare || do_flags_permit(leaf.flags as u64, kind, mode, sum, mxr)
+    leaf.bare || permit_by_flags(leaf.flags, kind, mode, sum, mxr)
 }
 
+/// Whether bits 7:0 of a leaf entry permit an access of the kind in the mode, with SUM and MXR of
+/// `sstatus` as given (Privileged ISA, "Virtual Address Translation Process").
+#[inline(always)]
 #[tactic(auto, unfolding(bn_model::specs::Walking::flags_permit))]
-fn do_flags_permit(flags: u64, kind: Kind, mode: Mode, sum: bool, mxr: bool) -> bool
+pub fn permit_by_flags(flags: u8, kind: Kind, mode: Mode, sum: bool, mxr: bool) -> bool
     ensures { result ≡ walking.flags_permit flags kind mode sum mxr }
 {
+    let flags = u64::from(flags);
     is_granted(flags, kind, mxr)
         && is_reached(is_set(flags, USER), kind, mode, sum)
         && is_marked(flags, kind)

@@ -51,6 +51,7 @@ fn blank_pages<L: Ledger>(unit: &mut Unit, decls: &[Decl], steps: &mut Steps<L>)
     requires held { AreHeld unit.old.nest.ram unit.old.live decls.now }
     ensures pages { contents unit.new.nest ≡ zeroed_pages decls.now (contents unit.old.nest) }
     ensures live { unit.new.live ≡ unit.old.live }
+    ensures harts { unit.new.cache.harts ≡ unit.old.cache.harts }
     ensures nested { IsNested unit.new.nest }
     ensures ram { unit.new.nest.ram ≡ unit.old.nest.ram }
 {
@@ -65,6 +66,7 @@ fn blank_if_private<L: Ledger>(unit: &mut Unit, decl: &Decl, steps: &mut Steps<L
     requires held { IsHeld unit.old.nest.ram unit.old.live decl.now }
     ensures pages { contents unit.new.nest ≡ after_decl decl.now (contents unit.old.nest) }
     ensures live { unit.new.live ≡ unit.old.live }
+    ensures harts { unit.new.cache.harts ≡ unit.old.cache.harts }
     ensures nested { IsNested unit.new.nest }
     ensures ram { unit.new.nest.ram ≡ unit.old.nest.ram }
 {

@@ -52,6 +52,7 @@ impl Engine {
         lines: &mut LineBuf,
         steps: &mut Steps<L>,
     )
+        requires sound { IsSound self.old.state }
         requires hart { h < length self.old.state.harts }
         requires clock { self.old.state.clock < 2 ^ 64 - 1 }
         requires register { rd.0 < 32 }
@@ -70,6 +71,7 @@ impl Engine {
     /// they are.
     #[tactic(auto, using(bn_switch::proofs::IdBounds::row_of_large))]
     fn remove<L: Ledger>(&mut self, id: u64, steps: &mut Steps<L>) -> Result<u8, EvictRefused>
+        requires { IsSound self.old.state }
         ensures decision { (rd : Reg) (count : ℕ) → decision_by_refusal rd id count result
             ≡ decision_of_evict rd id count (row_of self.old.state.rows id) }
         ensures removed { OnOk result (self.new.state ≡ after_evict self.old.state id) }
@@ -92,6 +94,7 @@ impl Engine {
         id: ModId,
         steps: &mut Steps<L>,
     ) -> Result<u8, EvictRefused>
+        requires { IsSound self.old.state }
         ensures decision { (rd : Reg) (count : ℕ) → decision_by_refusal rd id.0 count result
             ≡ decision_of_evict rd id.0 count (row_of self.old.state.rows id.0) }
         ensures removed { OnOk result (self.new.state ≡ after_evict self.old.state id.0) }

@@ -34,7 +34,8 @@ impl Engine {
         width: Width,
         steps: &mut Steps<L>,
     ) -> Result<u64, Fault>
-        requires { h < length self.old.state.harts }
+        requires sound { IsSound self.old.state }
+        requires hart { h < length self.old.state.harts }
         ensures number { let s = self.old.state in result
             ≡ answer_of_load s.pages width
             (access (memory s) (asker h (hart_at s h)) Kind.Load va width) }
@@ -55,7 +56,8 @@ impl Engine {
         value: u64,
         steps: &mut Steps<L>,
     ) -> Result<(), Fault>
-        requires { h < length self.old.state.harts }
+        requires sound { IsSound self.old.state }
+        requires hart { h < length self.old.state.harts }
         ensures answer { let s = self.old.state in
             Completes result (access (memory s) (asker h (hart_at s h)) Kind.Store va width) }
         ensures stored { let s = self.old.state in

@@ -90,6 +90,7 @@ fn start_harts(alloc: Global, count: u8, entry: u64) -> Result<Vec<Hart>, NoMemo
     requires aligned { entry % 4 ≡ 0 }
     ensures harts { IfOk result (λ harts. harts.items ≡ flat.opening_harts count entry) }
     ensures some { IfOk result (λ harts. 0 < length harts.items) }
+    ensures count { IfOk result (λ harts. length harts.items ≡ count) }
 {
     let mut harts = Vec::new(alloc);
     push_hart(&mut harts, Hart::started(entry))?;

@@ -5,7 +5,7 @@ ghost use Rattle.bn_model.specs.Memory.{visible};
 ghost use Rattle.bn_model.specs.Reporting as flat;
 ghost use Rattle.bn_model.specs.Reporting.{bytes_if_free};
 ghost use Rattle.bn_model.specs.State.{memory};
-ghost use Rattle.bn_unit.specs.Memory.{memory_of, words_if};
+ghost use Rattle.bn_unit.specs.Memory.{memory_seen, words_if};
 ghost use Rattle.sha2.specs.Hashers.{Holds256};
 ghost use Rattle.sha2.specs.Sha256.{sha256};
 
@@ -30,9 +30,9 @@ impl Machine {
 }
 
 fn digest_pages<L: Ledger>(pages: &View<'_>, count: u32, steps: &mut Steps<L>) -> [u8; 32]
-    requires { length (visible (memory_of pages.now)) ≡ count }
-    ensures digest { result ≡ sha256 (flat_map bytes_if_free (visible (memory_of pages.now))) }
-    ensures read { steps.new ≡ steps.old + 3 * count_by is_some (visible (memory_of pages.now)) }
+    requires { length (visible (memory_seen pages.now)) ≡ count }
+    ensures digest { result ≡ sha256 (flat_map bytes_if_free (visible (memory_seen pages.now))) }
+    ensures read { steps.new ≡ steps.old + 3 * count_by is_some (visible (memory_seen pages.now)) }
 {
     let mut hasher = Sha256::new();
     for page in 0..count {
@@ -44,9 +44,9 @@ fn digest_pages<L: Ledger>(pages: &View<'_>, count: u32, steps: &mut Steps<L>) -
 /// Adds a page where no module owns it.
 fn add_page<L: Ledger>(pages: &View<'_>, page: Gpn, hasher: &mut Sha256, steps: &mut Steps<L>)
     ensures added { (text : List ℕ) → Holds256 hasher.old text → Holds256 hasher.new
-        (text ++ bytes_if_free (slice_index_or (visible (memory_of pages.now)) page.0 None)) }
+        (text ++ bytes_if_free (slice_index_or (visible (memory_seen pages.now)) page.0 None)) }
     ensures read { steps.new ≡ steps.old + words_if
-        (is_some (slice_index_or (visible (memory_of pages.now)) page.0 None)) }
+        (is_some (slice_index_or (visible (memory_seen pages.now)) page.0 None)) }
 {
     let mut bytes = [0; 4096];
     if pages.read_page(page, &mut bytes, steps) {

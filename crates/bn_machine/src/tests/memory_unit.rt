@@ -24,15 +24,6 @@ const SATP: u64 = 0x8000000000080001;
 /// What page 3 has at offset 8.
 const WORD: u64 = 0x1122334455667788;
 
-/// The root leads low addresses to page 2, and RAM to its own addresses. A leaf of 2 MiB in page 2
-/// leads to RAM's first page, and page 3 has a word.
-const TABLES: [(u64, u64); 4] = [
-    (0x80001000, 0x20000801), // page 1, entry 0
-    (0x80001010, 0x200000cf), // page 1, entry 2
-    (0x80002000, 0x200000cf), // page 2, entry 0
-    (0x80003008, WORD),
-];
-
 /// Not the address of a page, since bits 63:39 aren't bit 38.
 const NOT_CANONICAL: u64 = 0x8000000000;
 
@@ -66,18 +57,21 @@ fn place_all(rt: &impl Abort, frames: Frames) -> Nest
     nest
 }
 
-fn unit_of(rt: &impl Abort, alloc: Global) -> Unit
+pub fn unit_of(rt: &impl Abort, alloc: Global) -> Unit
     ensures live { result.live ≡ [] }
+    ensures harts { result.cache.harts ≡ 2 }
     ensures ram { result.nest.ram ≡ 16 }
 {
     let frames = Frames::zeroed(alloc, 23).expect(rt, "memory");
     let nest = place_all(rt, frames);
-    Unit::build(alloc, nest, 16, 1).expect(rt, "memory")
+    Unit::build(alloc, nest, 16, 2).expect(rt, "memory")
 }
 
 /// One who asks in mode S, in Bare.
-fn bare() -> Asker
-    ensures { result.satp ≡ 0 }
+pub fn bare() -> Asker
+    ensures satp { result.satp ≡ 0 }
+    ensures hart { result.hart ≡ 0 }
+    ensures outside { result.«module».0 ≡ 0 }
 {
     Asker {
         hart: 0,
@@ -90,8 +84,10 @@ fn bare() -> Asker
 }
 
 /// One who asks in mode S, by the tables.
-fn paged() -> Asker
-    ensures { result.satp ≡ 0x8000000000080001 }
+pub fn paged() -> Asker
+    ensures satp { result.satp ≡ 0x8000000000080001 }
+    ensures hart { result.hart ≡ 0 }
+    ensures outside { result.«module».0 ≡ 0 }
 {
     Asker {
         satp: SATP,
@@ -99,23 +95,32 @@ fn paged() -> Asker
     }
 }
 
-fn store_word<L: Ledger>(
+pub fn store_word<L: Ledger>(
     rt: &impl Abort,
     unit: &mut Unit,
     va: u64,
     word: u64,
     steps: &mut Steps<L>,
-) {
+)
+    requires { 0 < unit.old.cache.harts }
+    ensures live { unit.new.live ≡ unit.old.live }
+    ensures harts { unit.new.cache.harts ≡ unit.old.cache.harts }
+{
     let stored = unit.store(&bare(), va, Width::B8, word, steps);
     assert_eq!(rt; stored, Ok(()));
 }
 
-/// A unit with the tables.
-fn unit_with_tables<L: Ledger>(rt: &impl Abort, alloc: Global, steps: &mut Steps<L>) -> Unit {
+/// A unit with tables. Entries 0 and 2 of the root, in page 1, lead low addresses to page 2, and RAM
+/// to its own addresses. A leaf of 2 MiB in page 2 leads to RAM's first page, and page 3 has a word.
+fn unit_with_tables<L: Ledger>(rt: &impl Abort, alloc: Global, steps: &mut Steps<L>) -> Unit
+    ensures live { result.live ≡ [] }
+    ensures harts { result.cache.harts ≡ 2 }
+{
     let mut unit = unit_of(rt, alloc);
-    for (va, word) in TABLES {
-        store_word(rt, &mut unit, va, word, steps);
-    }
+    store_word(rt, &mut unit, 0x80001000, 0x20000801, steps);
+    store_word(rt, &mut unit, 0x80001010, 0x200000cf, steps);
+    store_word(rt, &mut unit, 0x80002000, 0x200000cf, steps);
+    store_word(rt, &mut unit, 0x80003008, WORD, steps);
     unit
 }
 
@@ -223,8 +228,9 @@ fn try_view<L: Ledger>(rt: &impl Abort, alloc: Global, blank: Blank)
 }
 
 /// Module 1, with page 5 as private data where it lies in Bare.
-fn module_row() -> Row
-    ensures { All (λ decl. decl.gpn.0 < 16) result.judged.decls.items }
+pub fn module_row() -> Row
+    ensures inside { All (λ decl. decl.gpn.0 < 16) result.judged.decls.items }
+    ensures id { result.id.0 ≡ 1 }
 {
     let mut decls = ArrayVec::new();
     decls.push(Decl {
@@ -251,19 +257,21 @@ fn module_row() -> Row
     }
 }
 
-fn denied(cause: u64, va: u64, page: u32) -> Fault {
+pub fn denied(cause: u64, va: u64, page: u32) -> Fault {
     Fault {
         denied: Some(Gpn(page)),
         ..failed(cause, va)
     }
 }
 
-/// One who asks in a module.
-fn inside(module: u16) -> Asker
-    ensures { result.satp ≡ 0 }
+/// One who asks in module 1.
+fn inside() -> Asker
+    ensures satp { result.satp ≡ 0 }
+    ensures hart { result.hart ≡ 0 }
+    ensures id { result.«module».0 ≡ 1 }
 {
     Asker {
-        module: ModId(module),
+        module: ModId(1),
         ..bare()
     }
 }
@@ -278,17 +286,17 @@ fn try_owned<L: Ledger>(rt: &impl Abort, alloc: Global, blank: Blank)
     unit.own(&module_row());
     let load = unit.load(&bare(), 0x80005008, Width::B8, &mut steps);
     assert_eq!(rt; load, Err(denied(5, 0x80005008, 5)));
-    let store = unit.store(&inside(2), 0x80005008, Width::B8, 7, &mut steps);
+    let store = unit.store(&bare(), 0x80005008, Width::B8, 7, &mut steps);
     assert_eq!(rt; store, Err(denied(7, 0x80005008, 5)));
-    let store = unit.store(&inside(1), 0x80005008, Width::B8, 7, &mut steps);
+    let store = unit.store(&inside(), 0x80005008, Width::B8, 7, &mut steps);
     assert_eq!(rt; store, Ok(()));
-    let load = unit.load(&inside(1), 0x80005008, Width::B8, &mut steps);
+    let load = unit.load(&inside(), 0x80005008, Width::B8, &mut steps);
     assert_eq!(rt; load, Ok(7));
-    let fetch = unit.fetch(&inside(1), 0x80005008, &mut steps);
+    let fetch = unit.fetch(&inside(), 0x80005008, &mut steps);
     assert_eq!(rt; fetch, Err(denied(1, 0x80005008, 5)));
-    let load = unit.load(&inside(1), 0x80006000, Width::B8, &mut steps);
+    let load = unit.load(&inside(), 0x80006000, Width::B8, &mut steps);
     assert_eq!(rt; load, Ok(0));
-    let fetch = unit.fetch(&inside(1), 0x80006000, &mut steps);
+    let fetch = unit.fetch(&inside(), 0x80006000, &mut steps);
     assert_eq!(rt; fetch, Err(denied(1, 0x80006000, 6)));
     expect_owned(rt, &unit.view(), &mut steps);
 }
@@ -373,7 +381,7 @@ fn try_owned_byte<L: Ledger>(rt: &impl Abort, alloc: Global, blank: Blank)
     unit.own(&module_row());
     assert!(rt; !unit.poke(Gpn(5), 8, 9, &mut steps));
     assert_eq!(rt; unit.peek(Gpn(5), 8, &mut steps), None);
-    let load = unit.load(&inside(1), 0x80005008, Width::B8, &mut steps);
+    let load = unit.load(&inside(), 0x80005008, Width::B8, &mut steps);
     assert_eq!(rt; load, Ok(7));
     // its neighbours are free
     assert!(rt; unit.poke(Gpn(4), 4095, 9, &mut steps));

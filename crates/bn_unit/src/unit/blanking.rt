@@ -17,6 +17,7 @@ impl Unit {
         ensures pages { contents self.new.nest
             ≡ slice_set (contents self.old.nest) page.0 zero_page }
         ensures live { self.new.live ≡ self.old.live }
+        ensures cache { self.new.cache ≡ self.old.cache }
         ensures nested { IsNested self.new.nest }
         ensures ram { self.new.nest.ram ≡ self.old.nest.ram }
         ensures read { steps.new ≡ steps.old + 3 }

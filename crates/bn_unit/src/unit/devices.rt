@@ -5,6 +5,7 @@ ghost use Rattle.bn_types.specs.Numbers.{page_at};
 ghost use Rattle.bn_model.specs.Memory.{visible};
 ghost use Rattle.bn_model.specs.Nesting.{IsNested, contents, place};
 ghost use Rattle.bn_model.specs.Stepping.{pages_after_poke};
+ghost use Rattle.bn_unit.specs.Holding.{after_poke};
 ghost use Rattle.bn_unit.specs.Memory.{byte_seen, is_seen, memory_of, words_seen};
 
 use crate::Unit;
@@ -26,12 +27,17 @@ impl Unit {
         if !self.is_seen(page) {
             return None;
         }
-        Some(self.read(Place { page, offset }, Width::B1, steps) as u8)
+        Some(self.read(
+            Place { page, offset },
+            self.frame_of(page, steps),
+            Width::B1,
+        ) as u8)
     }
 
     /// Writes the byte at the offset, below 4,096, of a page of RAM that no live module owns, at a
-    /// cost of three steps, and tells whether it did. Where the page lies outside RAM or is owned,
-    /// nothing is done, at no cost.
+    /// cost of three steps, and tells whether it did. Each translation, of any hart, leaves whose
+    /// walk read the page. Where the page lies outside RAM or is owned, nothing is done, at no
+    /// cost.
     pub fn poke<L: Ledger>(
         &mut self,
         page: Gpn,
@@ -49,12 +55,16 @@ impl Unit {
         ensures ram { self.new.nest.ram ≡ self.old.nest.ram }
         ensures places { (page : ℕ) → place self.new.nest page ≡ place self.old.nest page }
         ensures free { self.new.nest.free ≡ self.old.nest.free }
+        ensures cache { self.new.cache
+            ≡ after_poke (slice_get (visible (memory_of self.old)) page.0) page.0 self.old.cache }
+        ensures harts { self.new.cache.harts ≡ self.old.cache.harts }
         ensures read { steps.new ≡ steps.old
             + words_seen (slice_get (visible (memory_of self.old)) page.0) }
         ensures few { steps.new ≤ steps.old + 3 }
     {
         if self.is_seen(page) {
-            self.write(Place { page, offset }, Width::B1, u64::from(byte), steps);
+            let frame = self.frame_of(page, steps);
+            self.write(Place { page, offset }, frame, Width::B1, u64::from(byte));
             true
         } else {
             false

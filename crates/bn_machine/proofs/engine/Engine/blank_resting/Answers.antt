@@ -32,6 +32,7 @@ invariant_of-self g c = record {
       (c.blank_pages.ensures.live ∙ c.self.invariant.owned
       ∙ sym (owners-with_row c.args.id.0 blank_row keeps-blank c.self.inside.table.rows));
   some = c.self.invariant.some;
+  held = c.blank_pages.ensures.harts ∙ c.self.invariant.held;
 }
 
 pub returns-in-Some : goal.returns-in-Some

@@ -1,4 +1,4 @@
-use Rattle.std.proofs.Common.{ℕ, ◌≡◌, ◌<◌, ◌++◌, ◌∷◌, List, [], length, sym, ap, ap₂, subst, ◌∙◌}
+use Rattle.std.proofs.Common.{ℕ, false, ◌≡◌, ◌<◌, ◌++◌, ◌∷◌, List, [], length, sym, ap, ap₂, subst, ◌∙◌}
 use Rattle.std.proofs.lemmas.Option.{none-some, same_Some}
 use Rattle.std.specs.List.{All}
 use Rattle.std.specs.Option.{option_copied}
@@ -6,8 +6,11 @@ use Rattle.bn_types.specs.declared.decl.Decl.{Decl}
 use Rattle.bn_types.specs.declared.row.Row.{Row}
 use Rattle.bn_model.specs.declared.owner.Owner.{Owner}
 use Rattle.bn_model.specs.Rows.{new_row, owner_of, owners}
+use Rattle.bn_unit.proofs.Leaving.{harts-without}
 use Rattle.bn_unit.specs.Memory.{Backing}
 use Rattle.bn_machine.specs.Standing.{HasParts, Standing}
+use Rattle.bn_model.specs.Owners.{is_live}
+use Rattle.bn_machine.proofs.Askers.{new-id}
 use Rattle.bn_machine.proofs.Launches.{found_added, length_owners, owners_more}
 use Rattle.bn_machine.proofs.engine.Engine.enter.Goals as goal
 
@@ -25,6 +28,13 @@ own-requires-clause-room c =
     subst (λ (n : ℕ). n < 15)
     (sym (ap length c.self.invariant.owned ∙ length_owners c.self.inside.table.rows))
     (subst (λ (m : Standing). length m.state.rows < 15) (sym c.self.view_is) c.requires.room)
+
+pub own-requires-clause-new : goal.own-requires-clause-new
+own-requires-clause-new c =
+    subst (λ (live : List Owner). is_live live c.in-Some.row.now.id.0 ≡ false)
+    (sym c.self.invariant.owned)
+    (new-id c.self.inside.table.rows c.self.inside.table.next c.in-Some.row.now.id.0
+    c.facts.ensures.ascend (ap (λ (row : Row). row.id.0) (the-row c)))
 
 pub own-requires-clause-inside : goal.own-requires-clause-inside
 own-requires-clause-inside c =
@@ -51,6 +61,8 @@ invariant_of-self c =
           c.self.invariant.owned row
           ∙ sym (owners_more c.self.inside.table.rows _) ∙ ap owners (sym c.add-id.ensures.rows);
       some = c.self.invariant.some;
+      held = harts-without c.in-Some.row.now.judged.decls.items c.self.inside.unit.cache
+          ∙ c.self.invariant.held;
     })
 
 pub unreachable-requires : goal.unreachable-requires

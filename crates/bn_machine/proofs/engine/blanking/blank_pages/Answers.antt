@@ -10,6 +10,7 @@ pub loop-decl-init : goal.loop-decl-init
 loop-decl-init g c = record {
   pages = sym (zeroed-none (contents c.args.unit.now.nest));
   live = refl;
+  harts = refl;
   ram = refl;
   nested = c.facts.ensures.nested;
 }
@@ -32,6 +33,7 @@ loop-decl-preserved g c =
           ∙ ap (λ (front : List Decl). zeroed_pages front old)
           (sym (take_more decls here _ c.loop-decl-test.true));
       live = c.blank_if_private.ensures.live ∙ c.loop-decl.invariant.live;
+      harts = c.blank_if_private.ensures.harts ∙ c.loop-decl.invariant.harts;
       ram = c.blank_if_private.ensures.ram ∙ c.loop-decl.invariant.ram;
       nested = c.blank_if_private.ensures.nested;
     }

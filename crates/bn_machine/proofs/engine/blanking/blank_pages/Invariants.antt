@@ -9,6 +9,7 @@ invariant-loop-decl g l = record {
   pages : contents l.unit.nest ≡
       zeroed_pages (take l.decl-index l.decls) (contents l.initial.unit.nest);
   live : l.unit.live ≡ l.initial.unit.live;
+  harts : l.unit.cache.harts ≡ l.initial.unit.cache.harts;
   ram : l.unit.nest.ram ≡ l.initial.unit.nest.ram;
   nested : IsNested l.unit.nest;
 }

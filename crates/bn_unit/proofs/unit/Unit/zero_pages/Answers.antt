@@ -20,6 +20,7 @@ loop-page-preserved g c =
           (omega (arith, c.loop-page-test.true, c.ram_pages-page-end.ensures.count)) held.0,
       c.zero_if_given_up.ensures.live ∙ held.1,
       c.zero_if_given_up.ensures.ram ∙ held.2,
+      c.zero_if_given_up.ensures.cache ∙ held.3,
       c.zero_if_given_up.ensures.nested,
     )
 

@@ -10,4 +10,4 @@ invariant-loop-page g l =
     let old = contents l.initial.self.nest in
     (contents l.self.nest ≡ mixed l.page (pages_left l.gone l.initial.self.live old) old)
     × (l.self.live ≡ l.initial.self.live) × (l.self.nest.ram ≡ l.initial.self.nest.ram)
-    × IsNested l.self.nest
+    × (l.self.cache ≡ l.initial.self.cache) × IsNested l.self.nest
