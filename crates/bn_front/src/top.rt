@@ -21,8 +21,8 @@ use std::alloc::Global;
 ///
 /// The words are those that `read_words` reads. A run with `--store` opens its store from vault and
 /// chip before it begins, and commits it once it has ended, before the end line is written; any
-/// other call leaves vault and chip alone. Where nothing fails, the status, the text and what stands
-/// stored are those of the report of the flat machine.
+/// other call leaves vault and chip alone. Where nothing fails, the status, the text and what
+/// stands stored are those of the report of the flat machine.
 pub fn bastion<D: Desk, V: Vault, C: Chip, O: Sink>(
     alloc: Global,
     words: &[Vec<u8>],
