@@ -251,10 +251,11 @@ impl Unit {
         requires room { length self.old.live < 15 }
         requires new { is_live self.old.live row.now.id.0 ≡ false }
         requires inside { LieInRam self.old.nest.ram row.now.judged.decls.items }
-        ensures { self.new ≡ record self.old {
+        ensures entered { self.new ≡ record self.old {
           live = self.old.live ++ owner_of row.now ∷ [];
           cache = cache_without row.now.judged.decls.items self.old.cache;
         } }
+        ensures harts { self.new.cache.harts ≡ self.old.cache.harts }
     {
         // For the prover: reading a field tells what the invariant says of it.
         let _nest = &self.nest;

@@ -54,7 +54,7 @@ invariant_of-self c =
     ∙ found_added c.self.inside.table.rows _ _ _ c.args.judged _ c.facts.ensures.ascend
     c.add-id.ensures.rows c.add-id.ensures.id c.row.ensures) in
     subst (λ (unit : Backing). HasParts unit c.add-id.new.self.rows c.self.inside.harts.items)
-    (sym c.own.ensures)
+    (sym c.own.ensures.entered)
     (record {
       nested = c.self.invariant.nested;
       owned = ap₂ (λ (live : List Owner) (row : Row). live ++ owner_of row ∷ [])

@@ -1,4 +1,7 @@
-use Rattle.std.proofs.Common.{◌∙◌}
+use Rattle.std.proofs.Common.{ap, ◌∙◌}
+use Rattle.bn_tlb.specs.Caching.{Cache}
+use Rattle.bn_unit.specs.Memory.{Backing}
+use Rattle.bn_unit.proofs.Leaving.{harts-without}
 use Rattle.bn_model.specs.Rows.{owner_of}
 use Rattle.bn_unit.proofs.Owning.{held-owning}
 use Rattle.bn_unit.proofs.unit.Unit.own.Goals as goal
@@ -12,3 +15,9 @@ invariant_of-self c =
           c.self.inside.tlb c.drop_pages.new.tlb c.add_row.new.self.live c.deref.result.now
           c.add_row.ensures.live c.deref.ensures.0 c.drop_pages.ensures new c.self.invariant.right;
     }
+
+pub returns-clause-harts : goal.returns-clause-harts
+returns-clause-harts c =
+    ap (λ (m : Cache). m.harts) c.drop_pages.ensures
+    ∙ harts-without c.deref.result.now c.self.inside.tlb
+    ∙ ap (λ (b : Backing). b.cache.harts) c.self.view_is
