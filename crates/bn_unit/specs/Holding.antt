@@ -75,7 +75,8 @@ abbrev pub place_if_permitted :
 place_if_permitted true admitted entry kind va = place_if_right admitted entry kind va
 place_if_permitted false admitted entry kind va = fault (page_fault kind) va
 
--- the flags are judged by the mode, SUM and MXR of the one who asks now, the admission by the rights
+-- the flags are judged by the mode, SUM and MXR of the one who asks now, the admission by the
+-- rights that are held
 abbrev pub place_held : Entry → Asker → Kind → (va : ℕ) → Result Place Fault
 place_held entry who kind va =
     place_if_permitted (permits (landing_held entry) kind who.mode who.sum who.mxr)

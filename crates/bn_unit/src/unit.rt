@@ -136,7 +136,8 @@ impl Unit {
         ensures nested { IsNested self.new.nest }
         ensures ram { self.new.nest.ram ≡ self.old.nest.ram }
         ensures cache { IsAfterAccess who.now va
-            (access (memory_of self.old) who.now Kind.Fetch va Width.B4) self.old.cache self.new.cache }
+            (access (memory_of self.old) who.now Kind.Fetch va Width.B4) self.old.cache
+            self.new.cache }
         ensures harts { self.new.cache.harts ≡ self.old.cache.harts }
         ensures walked { steps.new ≡ steps.old
             + words_if_missed (is_held self.old.cache who.now va)
@@ -228,7 +229,8 @@ impl Unit {
         ensures places { (page : ℕ) → place self.new.nest page ≡ place self.old.nest page }
         ensures free { self.new.nest.free ≡ self.old.nest.free }
         ensures cache { IsAfterStore who.now va
-            (access (memory_of self.old) who.now Kind.Store va width) self.old.cache self.new.cache }
+            (access (memory_of self.old) who.now Kind.Store va width) self.old.cache
+            self.new.cache }
         ensures harts { self.new.cache.harts ≡ self.old.cache.harts }
         ensures walked { steps.new ≡ steps.old
             + words_if_missed (is_held self.old.cache who.now va)
