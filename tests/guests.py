@@ -259,9 +259,14 @@ def listing(name):
     return out, entry
 
 
+def digest_of(lines):
+    """The SHA-256 digest of a trace."""
+    return hashlib.sha256("".join(line + "\n" for line in lines).encode()).digest()
+
+
 def digest_listing(prefix, lines):
-    """The SHA-256 digest of a trace that is long."""
-    digest = hashlib.sha256("".join(line + "\n" for line in lines).encode()).digest()
+    """The digest of a trace that is long."""
+    digest = digest_of(lines)
     out = [f"/// The digest of its trace, of {len(lines)} lines.", f"const {prefix}_DIGEST: [u8; 32] = ["]
     return out + ["    " + ", ".join(f"0x{byte:02x}" for byte in digest[at:at + 16]) + "," for at in (0, 16)] + ["];", ""]
 
