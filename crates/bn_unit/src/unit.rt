@@ -38,6 +38,7 @@ use std::sync::ledger::Ledger;
 
 mod blanking;
 mod devices;
+mod hitting;
 mod holding;
 mod releasing;
 
