@@ -114,8 +114,37 @@ impl Engine {
         }
     }
 
-    #[inline(never)]
     fn load<L: Ledger>(
+        &mut self,
+        h: u8,
+        va: u64,
+        width: Width,
+        signed: bool,
+        rd: Reg,
+        lines: &mut LineBuf,
+        steps: &mut Steps<L>,
+    )
+        requires sound { IsSound self.old.state }
+        requires hart { h < length self.old.state.harts }
+        requires clock { self.old.state.clock < 2 ^ 64 - 1 }
+        requires register { rd.0 < 32 }
+        requires empty { lines.old ≡ [] }
+        ensures made { let s = self.old.state in
+            let reached = access (memory s) (asker h (hart_at s h)) Kind.Load va width in
+            IsMade s self.new.state lines.new h
+            (decision_of_load width signed rd (answer_of_load s.pages width reached)) }
+        ensures few { steps.new ≤ steps.old + 15 }
+    {
+        match self.load_held(h, va, width) {
+            Some(number) => self.set(h, rd, extend(width, signed, number)),
+            None => self.load_anyhow(h, va, width, signed, rd, lines, steps),
+        }
+    }
+
+    /// A load, whatever the hart holds.
+    #[cold]
+    #[inline(never)]
+    fn load_anyhow<L: Ledger>(
         &mut self,
         h: u8,
         va: u64,
@@ -142,8 +171,35 @@ impl Engine {
         }
     }
 
-    #[inline(never)]
     fn store<L: Ledger>(
+        &mut self,
+        h: u8,
+        va: u64,
+        width: Width,
+        value: u64,
+        lines: &mut LineBuf,
+        steps: &mut Steps<L>,
+    )
+        requires sound { IsSound self.old.state }
+        requires hart { h < length self.old.state.harts }
+        requires clock { self.old.state.clock < 2 ^ 64 - 1 }
+        requires empty { lines.old ≡ [] }
+        ensures made { let s = self.old.state in
+            let reached = access (memory s) (asker h (hart_at s h)) Kind.Store va width in
+            IsMade s self.new.state lines.new h (decision_of_store width value reached) }
+        ensures few { steps.new ≤ steps.old + 15 }
+    {
+        if self.store_held(h, va, width, value) {
+            self.go_on(h);
+        } else {
+            self.store_anyhow(h, va, width, value, lines, steps);
+        }
+    }
+
+    /// A store, whatever the hart holds.
+    #[cold]
+    #[inline(never)]
+    fn store_anyhow<L: Ledger>(
         &mut self,
         h: u8,
         va: u64,

@@ -4,7 +4,7 @@ use Rattle.bn_model.specs.Rows.{owners}
 use Rattle.bn_model.specs.State.{hart_at, resting_hart}
 use Rattle.bn_machine.specs.Standing.{Standing}
 use Rattle.bn_machine.proofs.Askers.{known-asker}
-use Rattle.bn_machine.proofs.engine.Engine.fetch.Goals as goal
+use Rattle.bn_machine.proofs.engine.Engine.fetch_anyhow.Goals as goal
 
 pub fetch-requires-clause-known : goal.fetch-requires-clause-known
 fetch-requires-clause-known g c =
