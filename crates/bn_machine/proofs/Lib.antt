@@ -4,6 +4,7 @@ pub mod Identities
 pub mod Inside
 pub mod Launches
 pub mod Offers
+pub mod Passing
 pub mod PublicPages
 pub mod Runs
 pub mod Switches

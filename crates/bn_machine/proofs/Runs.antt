@@ -88,7 +88,7 @@ underway_at_start blind start all limit old on harts =
 abbrev pub before : Option Blind → State → State
 before blind s = state_before blind s
 
-abbrev after : Option Blind → State → Event → State
+abbrev pub after : Option Blind → State → Event → State
 after blind s event = step (before blind s) event
 
 -- the text of its lines

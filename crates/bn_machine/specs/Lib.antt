@@ -3,6 +3,7 @@ pub mod Costs
 pub mod Harts
 pub mod Loads
 pub mod Making
+pub mod Passing
 pub mod Standing
 pub mod Telling
 pub mod Zeroing

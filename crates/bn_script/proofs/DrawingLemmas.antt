@@ -6,7 +6,7 @@ use Rattle.std.proofs.lemmas.Bool.Decides.{nat_tests}
 use Rattle.std.proofs.Math.Nat.{mod-eq_of_lt, mod_self}
 use Rattle.std.proofs.lemmas.Grind.{common_steps}
 use Rattle.std.specs.List.{range_with_len, flat_map}
-use Rattle.std.specs.Prelude.{slice_get}
+use Rattle.std.specs.Prelude.{◌&&◌, ◌==◌, slice_get}
 use Rattle.bn_types.specs.declared.event.Event.{Event}
 use Rattle.bn_types.specs.declared.event.Event.TheVariants as event
 use Rattle.bn_model.specs.declared.command.Command.{Command}
@@ -15,7 +15,8 @@ use Rattle.bn_model.specs.Scripts.{IsOrderly, Script, after_event, event_from, e
 use Rattle.bn_model.specs.Scripts.{next_event}
 use Rattle.bn_model.specs.Scripts.{rounds}
 use Rattle.bn_model.proofs.ScriptLemmas.{after-orderly}
-use Rattle.bn_script.specs.Drawing.{CanBeDrawn, GoesOn, count_at, event_of, script_at, turn_at}
+use Rattle.bn_script.specs.Drawing.{CanBeDrawn, GoesOn, count_at, event_of, is_lone, is_over}
+use Rattle.bn_script.specs.Drawing.{script_at, turn_at}
 use Rattle.bn_script.specs.Lines.{count_of}
 
 -- what is left of some turns of one hart
@@ -323,3 +324,21 @@ pub first_hart : (hart harts : ℕ) → hart < harts → harts ≤ hart + 1 → 
 first_hart hart harts below last =
     let all : hart + 1 ≡ harts = omega (arith, below, last) in
     sym (ap (λ (n : ℕ). n % harts) all ∙ mod_self harts)
+
+-- ---- whether events of commands are left
+
+pub lone_here : (harts : ℕ) (commands : List Command) (at done : ℕ) (command : Command)
+    → GoesOn harts commands at done → slice_get commands at ≡ Some command
+    → is_lone (script_at harts commands at done) ≡ false
+unfolding is_lone
+lone_here harts commands at done command on h =
+    let within = subst (λ (got : Option Command). done < count_at harts got) h on.within in
+    ap (λ (events : List Event). is_over events && harts == 1)
+    (event_here harts commands at done command h within)
+
+pub lone_past : (harts : ℕ) (commands : List Command) (at done : ℕ)
+    → slice_get commands at ≡ None → is_lone (script_at harts commands at done) ≡ (harts == 1)
+unfolding is_lone
+lone_past harts commands at done h =
+    ap (λ (events : List Event). is_over events && harts == 1)
+    (events_end harts commands at done h)

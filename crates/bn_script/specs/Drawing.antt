@@ -1,7 +1,7 @@
 -- A script's place: which of its commands comes next, and how many of that command's events are
 -- drawn.
 use Rattle.std.specs.Prelude.{ℕ, ◌%◌, ◌≤◌, ◌<◌, Bool, true, false, nat_lt, List, drop, flat_map}
-use Rattle.std.specs.Prelude.{length, Option, Some, None, slice_get}
+use Rattle.std.specs.Prelude.{[], ◌∷◌, ◌==◌, ◌&&◌, length, Option, Some, None, slice_get}
 use Rattle.bn_types.specs.declared.event.Event.{Event}
 use Rattle.bn_types.specs.declared.event.Event.TheVariants as event
 use Rattle.bn_model.specs.declared.command.Command.{Command}
@@ -51,3 +51,11 @@ pub record GoesOn (harts : ℕ) (commands : List Command) (at done : ℕ) : Type
 pub record CanBeDrawn (harts : ℕ) (commands : List Command) (at done : ℕ) : Type 0 where
   pub on : GoesOn harts commands at done
   pub orderly : IsOrderly (script_at harts commands at done)
+
+-- the turns of the only hart are all that is left
+abbrev pub is_over : List Event → Bool
+is_over [] = true
+is_over (first ∷ events) = false
+
+unfoldable pub is_lone : Script → Bool
+is_lone script = is_over script.events && script.harts == 1

@@ -55,6 +55,17 @@ impl Script {
         let _harts = self.harts;
     }
 
+    /// Whether the turns of the machine's only hart are all that is left.
+    #[inline(always)]
+    pub fn is_lone(&self) -> bool
+        ensures { result ≡ drawing.is_lone self.now }
+    {
+        match command_at(self.commands.as_slice(), self.at) {
+            Some(_) => false,
+            None => self.harts == 1,
+        }
+    }
+
     /// Draws the next event. It never ends: after the events of the commands the harts take turns,
     /// from hart 0 on.
     #[tactic(auto, using(crate::proofs::DrawingLemmas::drawn_on))]

@@ -2,16 +2,16 @@ use Rattle.bn_model.specs.Running.{blind_at}
 use Rattle.bn_machine.proofs.Runs.{before_clock, before_fits, before_on}
 use Rattle.bn_machine.proofs.machine.Machine.make_event.Goals as goal
 
-pub turn-requires-clause-on : goal.turn-requires-clause-on
-turn-requires-clause-on g c = rw c.blank_before_event.ensures.blanked
+pub make_one-requires-clause-on : goal.make_one-requires-clause-on
+make_one-requires-clause-on g c = rw c.blank_before_event.ensures.blanked
     (before_on (blind_at c.args.blind) c.args.self.now.state c.requires.on)
 
-pub turn-requires-clause-fits : goal.turn-requires-clause-fits
-turn-requires-clause-fits g c =
+pub make_one-requires-clause-fits : goal.make_one-requires-clause-fits
+make_one-requires-clause-fits g c =
     rw c.blank_before_event.ensures.blanked
     (before_fits (blind_at c.args.blind) c.args.self.now.state c.args.event c.requires.fits)
 
-pub turn-requires-clause-clock : goal.turn-requires-clause-clock
-turn-requires-clause-clock g c =
+pub make_one-requires-clause-clock : goal.make_one-requires-clause-clock
+make_one-requires-clause-clock g c =
     rw c.blank_before_event.ensures.blanked
     (before_clock (blind_at c.args.blind) c.args.self.now.state _ c.requires.clock)
