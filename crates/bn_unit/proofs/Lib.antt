@@ -2,6 +2,7 @@ pub mod Devices
 pub mod Entering
 pub mod Evictions
 pub mod Hits
+pub mod Keeping
 pub mod LeafPages
 pub mod Leaving
 pub mod Owning

@@ -1,5 +1,5 @@
 ghost use Rattle.std.specs.Prelude.{◌≡◌, ℕ, List, [], ◌∷◌, ◌++◌, ◌+◌, ◌%◌, ◌^◌, ◌*◌, ◌<◌, ◌≤◌};
-ghost use Rattle.std.specs.Prelude.{◌==◌, Some, Ok, Err, IfOk, false, length, true};
+ghost use Rattle.std.specs.Prelude.{◌==◌, Some, Ok, Err, IfOk, OnOk, false, length, true};
 ghost use Rattle.bn_types.specs.Numbers.{AreWhole, bytes_of};
 ghost use Rattle.bn_model.specs.Accessing.{access, answer_of_load, number_on};
 ghost use Rattle.bn_model.specs.Accessing.{pages_after_store, pages_with};
@@ -14,7 +14,7 @@ ghost use Rattle.bn_model.specs.Memory.{visible};
 ghost use Rattle.bn_model.specs.Owners.{is_live};
 ghost use Rattle.bn_model.specs.Walking.{guest_page, tables_read, vpn_of, walk_of};
 ghost use Rattle.bn_shadow.specs.Counting.{LieInRam};
-ghost use Rattle.bn_tlb.specs.Caching.{after_drop, empty_cache, is_walked};
+ghost use Rattle.bn_tlb.specs.Caching.{IsCache, after_drop, empty_cache, is_walked};
 ghost use Rattle.bn_unit.specs.Dropping.{cache_without};
 ghost use Rattle.bn_tlb.specs.Caching.{AllHeld};
 ghost use Rattle.bn_unit.specs.Holding.{IsAfterAccess, IsAfterStore, IsRight, is_held};
@@ -96,7 +96,8 @@ impl Unit {
     }
 
     /// What holds of every unit: its tables are the tree of its placement, each page of RAM has a
-    /// frame and 4,096 bytes, and each translation that is held is right. It does nothing.
+    /// frame and 4,096 bytes, and each translation that is held is right, in the set of its key, and
+    /// there once. It does nothing.
     pub fn facts(&self)
         ensures nested { IsNested self.now.nest }
         ensures placed { AllPlaced self.now.nest }
@@ -104,9 +105,11 @@ impl Unit {
         ensures count { length (contents self.now.nest) ≡ self.now.nest.ram }
         ensures range { (0 < self.now.nest.ram) × (self.now.nest.ram ≤ 4096) }
         ensures right { AllHeld (IsRight self.now.nest self.now.live) self.now.cache }
+        ensures sets { IsCache self.now.cache }
     {
-        // For the prover: what holds of every nest of tables.
+        // For the prover: what holds of every nest of tables, and of all held translations.
         self.nest.facts();
+        self.tlb.facts();
     }
 
     /// Fetches the 4 bytes of the instruction at the virtual address, a multiple of 4, in the mode
@@ -139,6 +142,7 @@ impl Unit {
         ensures cache { IsAfterAccess who.now va
             (access (memory_of self.old) who.now Kind.Fetch va Width.B4) self.old.cache
             self.new.cache }
+        ensures held { OnOk result (is_held self.new.cache who.now va ≡ true) }
         ensures harts { self.new.cache.harts ≡ self.old.cache.harts }
         ensures walked { steps.new ≡ steps.old
             + words_if_missed (is_held self.old.cache who.now va)
@@ -182,6 +186,7 @@ impl Unit {
         ensures ram { self.new.nest.ram ≡ self.old.nest.ram }
         ensures cache { IsAfterAccess who.now va
             (access (memory_of self.old) who.now Kind.Load va width) self.old.cache self.new.cache }
+        ensures held { OnOk result (is_held self.new.cache who.now va ≡ true) }
         ensures harts { self.new.cache.harts ≡ self.old.cache.harts }
         ensures walked { steps.new ≡ steps.old
             + words_if_missed (is_held self.old.cache who.now va)
@@ -297,6 +302,7 @@ impl Unit {
         ensures live { self.new.live ≡ self.old.live }
         ensures cache { IsAfterAccess who.now va (place_at va result) self.old.cache
             self.new.cache }
+        ensures held { OnOk result (is_held self.new.cache who.now va ≡ true) }
         ensures harts { self.new.cache.harts ≡ self.old.cache.harts }
         ensures walked { steps.new ≡ steps.old
             + words_if_missed (is_held self.old.cache who.now va)

@@ -1,6 +1,6 @@
 //! Translations that the harts hold.
 ghost use Rattle.std.specs.Prelude.{◌≡◌, ◌≢◌, ◌<◌, ◌+◌, ◌*◌, ◌≤◌, ℕ, Ok, Some, IfOk, IfSome, false};
-ghost use Rattle.std.specs.Prelude.{length, true};
+ghost use Rattle.std.specs.Prelude.{OnOk, length, true};
 ghost use Rattle.std.specs.Option.{is_some};
 ghost use Rattle.bn_model.specs.Accessing.{page_words, place_by_walk, place_on, walk_by};
 ghost use Rattle.bn_model.specs.Admission.{admits};
@@ -65,6 +65,7 @@ impl Unit {
         ensures live { self.new.live ≡ self.old.live }
         ensures cache { IsEntered (place_at va result) self.old.cache self.new.cache who.hart
             (key_of who va) }
+        ensures held { OnOk result (is_held self.new.cache who va ≡ true) }
         ensures harts { self.new.cache.harts ≡ self.old.cache.harts }
         ensures walked { steps.new ≡ steps.old
             + 4 * length (tables_read (visible (memory_of self.old)) who.satp va)
@@ -97,6 +98,7 @@ impl Unit {
         ensures live { self.new.live ≡ self.old.live }
         ensures cache { IsEntered (place_at va result) self.old.cache self.new.cache who.now.hart
             (key_of who.now va) }
+        ensures held { OnOk result (is_held self.new.cache who.now va ≡ true) }
         ensures harts { self.new.cache.harts ≡ self.old.cache.harts }
         ensures read { steps.new ≡ steps.old + page_words (place_at va result) }
     {
@@ -125,8 +127,11 @@ impl Unit {
         ensures live { self.new.live ≡ self.old.live }
         ensures cache { IsEntered (place_at va (Ok spot)) self.old.cache self.new.cache
             who.now.hart (key_of who.now va) }
+        ensures held { is_held self.new.cache who.now va ≡ true }
         ensures harts { self.new.cache.harts ≡ self.old.cache.harts }
     {
+        // For the prover: each set of translations is one.
+        self.tlb.facts();
         let rights = self.shadow.rights(who.module, Vpn(va >> 12), spot.page);
         let entry = Entry {
             page: spot.page,

@@ -1,6 +1,7 @@
 use Rattle.std.proofs.Common.{sym, subst}
 use Rattle.bn_tlb.specs.declared.key.Key.{Key}
 use Rattle.bn_unit.proofs.Entering.{held-entered, right-entered}
+use Rattle.bn_unit.proofs.Keeping.{held-filled}
 use Rattle.bn_unit.proofs.unit.Unit.hold.Goals as goal
 
 pub invariant_of-self : goal.invariant_of-self
@@ -19,3 +20,8 @@ invariant_of-self c = record {
       c.rights-rights.ensures.store c.rights-rights.ensures.fetch
       (rw (← c.self.view_is) at c.requires.known));
 }
+
+pub returns-clause-held : goal.returns-clause-held
+returns-clause-held c =
+    held-filled c.self.inside.tlb c.fill.new.self c.args.who.now c.args.va c.key_in.result _
+    c.facts.ensures (rw (← c.self.view_is) at c.requires.hart) c.key_in.ensures c.fill.ensures
