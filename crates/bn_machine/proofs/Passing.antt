@@ -20,7 +20,9 @@ use Rattle.bn_model.specs.State.{State}
 use Rattle.bn_model.proofs.ScriptLemmas.{after-more}
 use Rattle.bn_script.specs.Drawing.{is_lone, is_over}
 use Rattle.bn_machine.specs.Passing.{AreSilent, IsSilent, Makes, after_event_in, event_number}
+use Rattle.bn_unit.specs.Holding.{Cache}
 use Rattle.bn_machine.specs.Costs.{CountsEvent}
+use Rattle.bn_machine.specs.Keys.{KeepsEvent}
 use Rattle.bn_machine.specs.Passing.{state_after_events, text_in, turn_number}
 use Rattle.bn_machine.specs.Telling.{FinishesRun, IsLeftOf, StopsRun}
 use Rattle.bn_machine.proofs.Runs.{IsUnderway, finished_off, front_written, stopped}
@@ -105,6 +107,16 @@ first-counts h most made start now begun before after below reached first few on
     ∙ ap (λ (n : ℕ). state_after_events None (turn_number h) n start) none in
     subst (λ (n : ℕ). CountsEvent start (Turn h) 30 n after) (first none)
     (subst (λ (s : State). CountsEvent s (Turn h) 30 before after) state few)
+
+-- and keeps what that turn keeps
+pub first-keeps : (h most made : ℕ) (start now : State) (m : Cache) → made < most
+    → now ≡ state_after_events None (turn_number h) made start → KeepsEvent now (Turn h) m
+    → most ≡ 1 → KeepsEvent start (Turn h) m
+unfolding state_after_events
+first-keeps h most made start now m below reached keeps one =
+    let none : made ≡ 0 = omega (arith, below, one) in
+    subst (λ (s : State). KeepsEvent s (Turn h) m) (reached
+    ∙ ap (λ (n : ℕ). state_after_events None (turn_number h) n start) none) keeps
 
 -- no lines
 pub empty-is : (text : List ℕ) → (length text == 0) ≡ true → text ≡ []

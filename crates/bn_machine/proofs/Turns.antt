@@ -1,6 +1,6 @@
 -- How the parts of a turn join.
 use Rattle.std.proofs.Common.{◌≡◌, ℕ, zero, suc, ◌+◌, ◌<◌, ◌≤◌, length, List, Option, Some}
-use Rattle.std.proofs.Common.{None, Result, Ok, Err, sym, ap, subst, arith}
+use Rattle.std.proofs.Common.{None, Result, Ok, Err, OnOk, sym, ap, subst, arith}
 use Rattle.bn_types.specs.declared.act.Act.{Act}
 use Rattle.bn_types.specs.declared.act.Act.TheVariants as act
 use Rattle.bn_types.specs.declared.event.Event.{Event}
@@ -9,7 +9,9 @@ use Rattle.bn_types.specs.declared.mod_id.ModId.{ModId}
 use Rattle.bn_types.specs.declared.fault.Fault.{Fault}
 use Rattle.bn_types.specs.declared.gpn.Gpn.{Gpn}
 use Rattle.bn_types.specs.declared.kind.Kind.TheVariants as kind
+use Rattle.bn_types.specs.declared.width.Width.{Width}
 use Rattle.bn_types.specs.declared.width.Width.TheVariants.{B4}
+use Rattle.bn_model.specs.declared.place.Place.{Place}
 use Rattle.bn_model.specs.Accessing.{access, answer_of_load}
 use Rattle.bn_model.specs.Deciding.{asked_of_denial, asked_of_fault, asked_of_fetch}
 use Rattle.bn_model.specs.Deciding.{asked_of_insn, asked_of_interrupt, asked_of_stopped}
@@ -22,7 +24,9 @@ use Rattle.bn_model.specs.Stepping.{Fits, step}
 use Rattle.bn_model.specs.Switching.{stopped_at}
 use Rattle.bn_model.specs.Walking.{vpn_of}
 use Rattle.bn_model.proofs.SoundKept.{sound-kept}
+use Rattle.bn_unit.specs.Holding.{Cache}
 use Rattle.bn_machine.specs.Costs.{CountsAct, CountsAsked}
+use Rattle.bn_machine.specs.Keys.{KeepsAsked}
 use Rattle.bn_machine.specs.Making.{MakesAsked, MakesTurn, after_write}
 
 -- the answer of hart h's fetch
@@ -155,3 +159,47 @@ sound_write s page offset byte fits sound =
       keys = sound.keys;
       records = sound.records;
     }
+
+-- ---- the keys that are held after a turn
+
+-- a word was fetched
+pub keeps-fetched : (s t : State) (h word : ℕ) (m : Cache) → t ≡ s → fetched s h ≡ Ok word
+    → KeepsAsked t h (asked_of_insn (hart_at t h) (insn_of word)) m
+    → KeepsAsked s h (asked_of_interrupt s h (hart_at s h) None) m
+keeps-fetched s t h word m same e keeps =
+    subst (λ (asked : Asked). KeepsAsked s h asked m)
+    (sym (ap (asked_of_fetch s.rows (hart_at s h)) e))
+    (subst (λ (t : State). KeepsAsked t h (asked_of_insn (hart_at t h) (insn_of word)) m) same
+    keeps)
+
+-- the fetch failed
+pub keeps-unfetched : (s : State) (h : ℕ) (fault : Fault) (m : Cache) → fetched s h ≡ Err fault
+    → KeepsAsked s h (asked_of_interrupt s h (hart_at s h) None) m
+keeps-unfetched s h fault m e =
+    subst (λ (asked : Asked). KeepsAsked s h asked m)
+    (sym (ap (asked_of_fetch s.rows (hart_at s h)) e))
+    (by_current (hart_at s h).current.0)
+  where
+    by_stopped : (id : Option ModId) → KeepsAsked s h (asked_of_stopped fault id) m
+    by_stopped None = tt
+    by_stopped (Some id) = tt
+
+    by_page : (page : Option Gpn)
+        → KeepsAsked s h (asked_of_denial s.rows (hart_at s h) fault page) m
+    by_page None = tt
+    by_page (Some page) =
+        by_stopped (stopped_at s.rows page.0 (vpn_of (hart_at s h).pc) (hart_at s h).pc
+        (hart_at s h).mode)
+
+    by_current : (current : ℕ)
+        → KeepsAsked s h (asked_of_fault current s.rows (hart_at s h) fault) m
+    by_current zero = by_page fault.denied
+    by_current (suc number) = tt
+
+-- what a load answers tells whether it reached a place
+pub keeps-answered : (pages : List (List ℕ)) (width : Width) (answer : Result ℕ Fault)
+    (reached : Result Place Fault) (P : Type 0) → answer ≡ answer_of_load pages width reached
+    → OnOk answer P → OnOk reached P
+keeps-answered pages width answer (Ok place) P e held =
+    subst (λ (answer : Result ℕ Fault). OnOk answer P) e held
+keeps-answered pages width answer (Err fault) P e held = tt

@@ -1,6 +1,7 @@
 pub mod Acts
 pub mod Costs
 pub mod Harts
+pub mod Keys
 pub mod Loads
 pub mod Making
 pub mod Passing

@@ -10,17 +10,28 @@ use Rattle.bn_types.specs.declared.sbi_ask.SbiAsk.{SbiAsk}
 use Rattle.bn_types.specs.declared.sbi_ask.SbiAsk.TheVariants as ask
 use Rattle.bn_model.specs.Nesting.{IsNested}
 use Rattle.bn_model.specs.Rows.{owners}
-use Rattle.bn_model.specs.Standing.{Parts, state_of}
+use Rattle.bn_model.specs.Standing.{Parts, StandsFor, state_of}
 use Rattle.bn_model.specs.Soundness.{state_at}
 use Rattle.bn_model.specs.State.{Hart, State, hart_at, untrusted}
+use Rattle.bn_unit.specs.Holding.{AllHeld, Cache, IsCache, IsRight}
 use Rattle.bn_unit.specs.Memory.{Backing}
 
 pub record Standing : Type 0 where
   pub parts : Parts
   pub state : State
+  -- the translations that the harts hold
+  pub cache : Cache
 
-abbrev pub standing : Parts → Standing
-standing parts = record { parts = parts; state = state_of parts }
+abbrev pub standing : Parts → Cache → Standing
+standing parts cache = record { parts = parts; state = state_of parts; cache = cache }
+
+-- the parts stand for the state; each hart holds translations of its own, and what each of them
+-- says is what the tables, the placement and the modules' declarations give now
+pub record IsMachine (m : Standing) : Type 0 where
+  pub stands : StandsFor m.parts m.state
+  pub right : AllHeld (IsRight m.parts.nest (owners m.parts.rows)) m.cache
+  pub sets : IsCache m.cache
+  pub harts : m.cache.harts ≡ length m.state.harts
 
 -- the nested tables lead as their placement says, the memory unit knows what the live modules
 -- declare, there is a hart, and the memory unit knows how many there are

@@ -1,6 +1,6 @@
 ghost use Rattle.std.specs.Prelude.{◌≡◌, ◌<◌, [], false, length};
 ghost use Rattle.bn_model.specs.Nesting.{contents};
-ghost use Rattle.bn_model.specs.Standing.{StandsFor};
+ghost use Rattle.bn_machine.specs.Standing.{IsMachine};
 ghost use Rattle.bn_model.specs.State.{hart_at, memory};
 ghost use Rattle.bn_unit.specs.Memory.{memory_of};
 
@@ -55,7 +55,7 @@ impl Model for Engine {
       next = e.table.next;
       clock = e.clock;
       off = e.off;
-    }) };
+    }) e.unit.cache };
 
     ghost invariant = { λ e. HasParts e.unit e.table.rows e.harts.items };
 }
@@ -120,14 +120,14 @@ impl Engine {
         &self.unit
     }
 
-    /// The parts stand for a state of the flat machine at all times, and there is a hart. It does
-    /// nothing.
+    /// The parts stand for a state of the flat machine at all times, each translation that is held
+    /// is right, and there is a hart. It does nothing.
     pub(crate) fn stand(&self)
-        ensures stands { StandsFor self.now.parts self.now.state }
+        ensures stands { IsMachine self.now }
         ensures some { 0 < length self.now.state.harts }
     {
-        // For the prover: reading a field tells what the invariant says of it.
-        let _unit = &self.unit;
+        // For the prover: what holds of every unit.
+        self.unit.facts();
     }
 
     /// The address of hart h's next instruction.

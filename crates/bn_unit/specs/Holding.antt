@@ -13,7 +13,8 @@ use Rattle.bn_model.specs.Memory.{Memory, visible}
 use Rattle.bn_model.specs.Nesting.{Nested, contents, place}
 use Rattle.bn_model.specs.Owners.{is_live}
 use Rattle.bn_model.specs.Walking.{Landing, leaf_of, page_fault, permits, vpn_of}
-use Rattle.bn_tlb.specs.Caching.{Cache, after_drop, after_fill, found, is_walked}
+pub use Rattle.bn_tlb.specs.Caching.{AllHeld, Cache, IsCache}
+use Rattle.bn_tlb.specs.Caching.{after_drop, after_fill, found, is_walked}
 use Rattle.bn_tlb.specs.declared.entry.Entry.{Entry}
 use Rattle.bn_tlb.specs.declared.key.Key.{Key}
 use Rattle.bn_tlb.specs.declared.slot.Slot.{Slot}

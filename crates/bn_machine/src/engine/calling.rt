@@ -26,6 +26,7 @@ impl Engine {
         ensures made { let s = self.old.state in let hart = hart_at s h in
             IsMade self.old.state self.new.state lines.new h
             (decision_of_ecall s hart hart.mode) }
+        ensures cache { self.new.cache ≡ self.old.cache }
     {
         match self.harts[h as usize].mode() {
             Mode::U => self.trap(h, USER_CALL, 0, lines),
@@ -41,6 +42,7 @@ impl Engine {
         ensures made { let s = self.old.state in
             let asked = ask_of (hart_at s h).regs (length s.harts) (map is_started s.harts) in
             IsMade self.old.state self.new.state lines.new h (decision_of_ask asked s.keys) }
+        ensures cache { self.new.cache ≡ self.old.cache }
     {
         match self.ask(h) {
             SbiAsk::SetTimer(timer) => self.set_timer(h, timer),

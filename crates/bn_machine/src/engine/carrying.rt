@@ -13,6 +13,7 @@ ghost use Rattle.bn_model.specs.Soundness.{IsSound};
 ghost use Rattle.bn_model.specs.State.{asker, hart_at, memory};
 ghost use Rattle.bn_machine.specs.Acts.{IsSystem, decision_outside};
 ghost use Rattle.bn_machine.specs.Costs.{CountsAct};
+ghost use Rattle.bn_machine.specs.Keys.{HoldsKey, KeepsAct, KeepsLoad};
 ghost use Rattle.bn_machine.specs.Making.{IsMade, MakesAct};
 ghost use Rattle.rv_csr.specs.Outcomes.{DoesCsr};
 
@@ -40,8 +41,11 @@ impl Engine {
         requires clock { self.old.state.clock < 2 ^ 64 - 1 }
         requires range { IsActInRange act }
         requires empty { lines.old ≡ [] }
+        requires held { let s = self.old.state in
+            HoldsKey s h (hart_at s h).pc self.old.cache }
         ensures made { MakesAct self.old.state self.new.state lines.new h act }
         ensures few { CountsAct act 15 steps.old steps.new }
+        ensures keys { KeepsAct self.old.state h act self.new.cache }
     {
         match act {
             Act::Set { rd, value } => self.set(h, rd, value),
@@ -70,6 +74,7 @@ impl Engine {
         requires system { IsSystem act }
         requires empty { lines.old ≡ [] }
         ensures made { MakesAct self.old.state self.new.state lines.new h act }
+        ensures cache { self.new.cache ≡ self.old.cache }
     {
         if self.harts[h as usize].is_inside() {
             self.trap(h, ILLEGAL_INSTRUCTION, 0, lines);
@@ -87,6 +92,7 @@ impl Engine {
         requires empty { lines.old ≡ [] }
         ensures made { let s = self.old.state in IsMade s self.new.state lines.new h
             (decision_outside s h (hart_at s h) act) }
+        ensures cache { self.new.cache ≡ self.old.cache }
     {
         match act {
             Act::Csr {
@@ -134,6 +140,9 @@ impl Engine {
             IsMade s self.new.state lines.new h
             (decision_of_load width signed rd (answer_of_load s.pages width reached)) }
         ensures few { steps.new ≤ steps.old + 15 }
+        ensures keys { let s = self.old.state in
+            KeepsLoad s h va (access (memory s) (asker h (hart_at s h)) Kind.Load va width)
+            self.new.cache }
     {
         match self.load_held(h, va, width) {
             Some(number) => self.set(h, rd, extend(width, signed, number)),
@@ -164,6 +173,9 @@ impl Engine {
             IsMade s self.new.state lines.new h
             (decision_of_load width signed rd (answer_of_load s.pages width reached)) }
         ensures few { steps.new ≤ steps.old + 15 }
+        ensures keys { let s = self.old.state in
+            KeepsLoad s h va (access (memory s) (asker h (hart_at s h)) Kind.Load va width)
+            self.new.cache }
     {
         match self.load_number(h, va, width, steps) {
             Ok(number) => self.set(h, rd, extend(width, signed, number)),
@@ -249,6 +261,7 @@ impl Engine {
         ensures made { let s = self.old.state in IsMade s self.new.state lines.new h
             (decision_of_csr s h (hart_at s h) asked.now.op asked.now.number asked.now.operand
             asked.now.reads asked.now.writes rd) }
+        ensures cache { self.new.cache ≡ self.old.cache }
     {
         let mut csrs = *self.harts[h as usize].csrs();
         match self.operate(h, &mut csrs, asked) {
@@ -285,6 +298,7 @@ impl Engine {
         requires empty { lines.old ≡ [] }
         ensures made { let s = self.old.state in IsMade s self.new.state lines.new h
             (flat_legality.supervisor_only (hart_at s h).mode turn.ReturnFromTrap) }
+        ensures cache { self.new.cache ≡ self.old.cache }
     {
         match self.harts[h as usize].mode() {
             Mode::S => self.return_from_trap(h),
@@ -301,6 +315,7 @@ impl Engine {
         requires empty { lines.old ≡ [] }
         ensures made { let s = self.old.state in IsMade s self.new.state lines.new h
             (flat_legality.supervisor_only (hart_at s h).mode turn.Next) }
+        ensures cache { self.new.cache ≡ self.old.cache }
     {
         match self.harts[h as usize].mode() {
             Mode::S => self.go_on(h),

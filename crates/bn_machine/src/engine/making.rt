@@ -23,7 +23,8 @@ use rv_csr::Csrs;
 impl Engine {
     pub(super) fn rest(&mut self)
         requires { self.old.state.clock < 2 ^ 64 - 1 }
-        ensures { self.new.state ≡ state_after self.old.state 0 turn.Rest }
+        ensures stepped { self.new.state ≡ state_after self.old.state 0 turn.Rest }
+        ensures cache { self.new.cache ≡ self.old.cache }
     {
         self.clock += 1;
     }
@@ -35,6 +36,7 @@ impl Engine {
         requires empty { lines.old ≡ [] }
         ensures stepped { self.new.state ≡ state_after self.old.state hart (turn.Trap cause value) }
         ensures told { lines.new ≡ text_after self.old.state hart (turn.Trap cause value) }
+        ensures cache { self.new.cache ≡ self.old.cache }
     {
         self.take_trap(hart, cause, value, lines);
     }
@@ -69,6 +71,7 @@ impl Engine {
         ensures stepped { self.new.state ≡ state_after self.old.state hart (turn.Trap cause value) }
         ensures told { lines.new
             ≡ lines.old ++ text_after self.old.state hart (turn.Trap cause value) }
+        ensures cache { self.new.cache ≡ self.old.cache }
     {
         if self.harts[hart as usize].is_inside() {
             self.stop_and_trap(hart, cause, value, lines);
@@ -87,6 +90,7 @@ impl Engine {
         ensures stepped { self.new.state ≡ state_after self.old.state hart (turn.Trap cause value) }
         ensures told { lines.new
             ≡ lines.old ++ text_after self.old.state hart (turn.Trap cause value) }
+        ensures cache { self.new.cache ≡ self.old.cache }
     {
         let pc = self.pc(hart);
         lines.push(&Line::Stop {
@@ -108,6 +112,7 @@ impl Engine {
         ensures stepped { self.new.state ≡ state_after self.old.state hart (turn.Trap cause value) }
         ensures told { lines.new
             ≡ lines.old ++ text_after self.old.state hart (turn.Trap cause value) }
+        ensures cache { self.new.cache ≡ self.old.cache }
     {
         let pc = self.pc(hart);
         self.enter_trap(hart, pc, cause, value, lines);
@@ -123,6 +128,7 @@ impl Engine {
             ≡ after_tick (with_hart s hart (hart_after_trap (hart_at s hart) cause value)) }
         ensures told { lines.new
             ≡ lines.old ++ spelling (line.Trap self.old.state.clock hart cause.0 pc) }
+        ensures cache { self.new.cache ≡ self.old.cache }
     {
         self.harts[hart as usize].trap(cause, value);
         lines.push(&Line::Trap {
@@ -137,7 +143,8 @@ impl Engine {
     pub(super) fn go_on(&mut self, hart: u8)
         requires hart { hart < length self.old.state.harts }
         requires clock { self.old.state.clock < 2 ^ 64 - 1 }
-        ensures { self.new.state ≡ state_after self.old.state hart turn.Next }
+        ensures stepped { self.new.state ≡ state_after self.old.state hart turn.Next }
+        ensures cache { self.new.cache ≡ self.old.cache }
     {
         self.harts[hart as usize].go_on();
         self.clock += 1;
@@ -147,7 +154,8 @@ impl Engine {
         requires hart { hart < length self.old.state.harts }
         requires clock { self.old.state.clock < 2 ^ 64 - 1 }
         requires register { rd.0 < 32 }
-        ensures { self.new.state ≡ state_after self.old.state hart (turn.Set rd value) }
+        ensures stepped { self.new.state ≡ state_after self.old.state hart (turn.Set rd value) }
+        ensures cache { self.new.cache ≡ self.old.cache }
     {
         self.harts[hart as usize].go_on_with(rd, value);
         self.clock += 1;
@@ -157,7 +165,8 @@ impl Engine {
         requires hart { hart < length self.old.state.harts }
         requires clock { self.old.state.clock < 2 ^ 64 - 1 }
         requires register { rd.0 < 32 }
-        ensures { self.new.state ≡ state_after self.old.state hart (turn.Jump target rd link) }
+        ensures stepped { self.new.state ≡ state_after self.old.state hart (turn.Jump target rd link) }
+        ensures cache { self.new.cache ≡ self.old.cache }
     {
         self.harts[hart as usize].jump(target, rd, link);
         self.clock += 1;
@@ -167,7 +176,8 @@ impl Engine {
         requires hart { hart < length self.old.state.harts }
         requires clock { self.old.state.clock < 2 ^ 64 - 1 }
         requires register { rd.0 < 32 }
-        ensures { self.new.state ≡ state_after self.old.state hart (turn.Csr rd old csrs) }
+        ensures stepped { self.new.state ≡ state_after self.old.state hart (turn.Csr rd old csrs) }
+        ensures cache { self.new.cache ≡ self.old.cache }
     {
         self.harts[hart as usize].set_csrs(rd, old, csrs);
         self.clock += 1;
@@ -272,7 +282,8 @@ impl Engine {
     pub(super) fn return_from_trap(&mut self, hart: u8)
         requires hart { hart < length self.old.state.harts }
         requires clock { self.old.state.clock < 2 ^ 64 - 1 }
-        ensures { self.new.state ≡ state_after self.old.state hart turn.ReturnFromTrap }
+        ensures stepped { self.new.state ≡ state_after self.old.state hart turn.ReturnFromTrap }
+        ensures cache { self.new.cache ≡ self.old.cache }
     {
         self.harts[hart as usize].return_from_trap();
         self.clock += 1;
@@ -284,6 +295,7 @@ impl Engine {
         requires empty { lines.old ≡ [] }
         ensures stepped { self.new.state ≡ state_after self.old.state hart (turn.Put byte) }
         ensures told { lines.new ≡ text_after self.old.state hart (turn.Put byte) }
+        ensures cache { self.new.cache ≡ self.old.cache }
     {
         lines.push(&Line::Out {
             n: self.clock,
@@ -297,7 +309,8 @@ impl Engine {
     pub(super) fn answer(&mut self, hart: u8, error: u64)
         requires hart { hart < length self.old.state.harts }
         requires clock { self.old.state.clock < 2 ^ 64 - 1 }
-        ensures { self.new.state ≡ state_after self.old.state hart (turn.Answer error) }
+        ensures stepped { self.new.state ≡ state_after self.old.state hart (turn.Answer error) }
+        ensures cache { self.new.cache ≡ self.old.cache }
     {
         self.harts[hart as usize].answer(error);
         self.clock += 1;
@@ -306,7 +319,8 @@ impl Engine {
     pub(super) fn set_timer(&mut self, hart: u8, timer: u64)
         requires hart { hart < length self.old.state.harts }
         requires clock { self.old.state.clock < 2 ^ 64 - 1 }
-        ensures { self.new.state ≡ state_after self.old.state hart (turn.SetTimer timer) }
+        ensures stepped { self.new.state ≡ state_after self.old.state hart (turn.SetTimer timer) }
+        ensures cache { self.new.cache ≡ self.old.cache }
     {
         self.harts[hart as usize].set_timer(timer);
         self.clock += 1;
@@ -316,8 +330,9 @@ impl Engine {
     pub(super) fn take_key(&mut self, hart: u8)
         requires hart { hart < length self.old.state.harts }
         requires clock { self.old.state.clock < 2 ^ 64 - 1 }
-        ensures { self.new.state
+        ensures stepped { self.new.state
             ≡ state_after self.old.state hart (decision_of_get self.old.state.keys) }
+        ensures cache { self.new.cache ≡ self.old.cache }
     {
         match self.keys.pop_at(0) {
             Some(key) => self.harts[hart as usize].go_on_with(A0, u64::from(key)),
@@ -335,6 +350,7 @@ impl Engine {
         ensures stepped { self.new.state
             ≡ state_after self.old.state hart (turn.Start target pc opaque) }
         ensures told { lines.new ≡ text_after self.old.state hart (turn.Start target pc opaque) }
+        ensures cache { self.new.cache ≡ self.old.cache }
     {
         lines.push(&Line::Start {
             n: self.clock,
@@ -352,7 +368,8 @@ impl Engine {
         requires sound { IsSound self.old.state }
         requires hart { hart < length self.old.state.harts }
         requires clock { self.old.state.clock < 2 ^ 64 - 1 }
-        ensures { self.new.state ≡ state_after self.old.state hart (turn.Send mask) }
+        ensures stepped { self.new.state ≡ state_after self.old.state hart (turn.Send mask) }
+        ensures cache { self.new.cache ≡ self.old.cache }
     {
         self.harts[hart as usize].answer(0);
         raise_all(&mut self.harts, mask);
@@ -362,7 +379,8 @@ impl Engine {
     pub(super) fn shut_down(&mut self, hart: u8)
         requires hart { hart < length self.old.state.harts }
         requires clock { self.old.state.clock < 2 ^ 64 - 1 }
-        ensures { self.new.state ≡ state_after self.old.state hart turn.ShutDown }
+        ensures stepped { self.new.state ≡ state_after self.old.state hart turn.ShutDown }
+        ensures cache { self.new.cache ≡ self.old.cache }
     {
         self.harts[hart as usize].go_on();
         self.off = true;

@@ -1,10 +1,11 @@
 //! Accesses of a hart to memory.
-ghost use Rattle.std.specs.Prelude.{◌≡◌, ◌+◌, ◌*◌, ◌^◌, ◌<◌, ◌≤◌, IfOk, IfSome, OnErr, length};
+ghost use Rattle.std.specs.Prelude.{◌≡◌, ◌+◌, ◌*◌, ◌^◌, ◌<◌, ◌≤◌, IfOk, IfSome, OnErr, OnOk, length};
 ghost use Rattle.std.specs.Prelude.{Ok, false, true};
 ghost use Rattle.bn_types.specs.Numbers.{bytes_of};
 ghost use Rattle.bn_model.specs.Accessing.{access, answer_of_load, pages_after_store};
 ghost use Rattle.bn_model.specs.Soundness.{IsSound};
 ghost use Rattle.bn_model.specs.State.{asker, hart_at, memory};
+ghost use Rattle.bn_machine.specs.Keys.{HoldsKey};
 ghost use Rattle.bn_unit.specs.Memory.{Completes};
 
 use crate::engine::Engine;
@@ -22,6 +23,8 @@ impl Engine {
             (access (memory s) (asker h hart) Kind.Fetch hart.pc Width.B4) }
         ensures kept { self.new.state ≡ self.old.state }
         ensures few { steps.new ≤ steps.old + 15 }
+        ensures held { let s = self.old.state in
+            OnOk result (HoldsKey s h (hart_at s h).pc self.new.cache) }
     {
         match self.fetch_held(h) {
             Some(word) => Ok(word),
@@ -37,6 +40,8 @@ impl Engine {
         ensures word { let s = self.now.state in let hart = hart_at s h in IfSome result
             (λ word. Ok word ≡ answer_of_load s.pages Width.B4
             (access (memory s) (asker h hart) Kind.Fetch hart.pc Width.B4)) }
+        ensures held { let s = self.now.state in
+            IfSome result (λ word. HoldsKey s h (hart_at s h).pc self.now.cache) }
     {
         let hart = &self.harts[h as usize];
         let (who, pc) = (hart.asker(h), hart.pc());
@@ -54,6 +59,8 @@ impl Engine {
             (access (memory s) (asker h hart) Kind.Fetch hart.pc Width.B4) }
         ensures kept { self.new.state ≡ self.old.state }
         ensures few { steps.new ≤ steps.old + 15 }
+        ensures held { let s = self.old.state in
+            OnOk result (HoldsKey s h (hart_at s h).pc self.new.cache) }
     {
         let hart = &self.harts[h as usize];
         let (who, pc) = (hart.asker(h), hart.pc());
@@ -70,6 +77,7 @@ impl Engine {
             ≡ answer_of_load s.pages width
             (access (memory s) (asker h (hart_at s h)) Kind.Load va width)) }
         ensures fits { IfSome result (λ number. number < 2 ^ (8 * bytes_of width)) }
+        ensures held { IfSome result (λ number. HoldsKey self.now.state h va self.now.cache) }
     {
         let who = self.harts[h as usize].asker(h);
         self.unit.load_held(&who, va, width)
@@ -108,6 +116,7 @@ impl Engine {
         ensures fits { IfOk result (λ number. number < 2 ^ (8 * bytes_of width)) }
         ensures kept { self.new.state ≡ self.old.state }
         ensures few { steps.new ≤ steps.old + 15 }
+        ensures held { OnOk result (HoldsKey self.old.state h va self.new.cache) }
     {
         let who = self.harts[h as usize].asker(h);
         self.unit.load(&who, va, width, steps)

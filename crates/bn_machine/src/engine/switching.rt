@@ -99,7 +99,8 @@ impl Engine {
         requires sound { IsSound self.old.state }
         requires hart { h < length self.old.state.harts }
         requires inside { (hart_at self.old.state h).current.0 ≢ 0 }
-        ensures { self.new.state ≡ state_after_stop self.old.state h }
+        ensures stepped { self.new.state ≡ state_after_stop self.old.state h }
+        ensures cache { self.new.cache ≡ self.old.cache }
     {
         let here = self.leave(h);
         let outside = self.stop_in_table(here);
@@ -174,6 +175,7 @@ impl Engine {
               with_row (module_in here.seat).0 (row_after_stop (frame_of (hart_of here)))
               self.old.state.rows;
         } }
+        ensures cache { self.new.cache ≡ self.old.cache }
     {
         stop(&mut self.table, here)
     }
@@ -189,6 +191,7 @@ impl Engine {
         ensures seated { IsSeated self.old.state.rows result.seat }
         ensures left { let s = self.old.state in self.new.state
             ≡ with_hart s h (record (hart_at s h) { current = untrusted }) }
+        ensures cache { self.new.cache ≡ self.old.cache }
     {
         self.harts[h as usize].leave()
     }
@@ -198,8 +201,9 @@ impl Engine {
         requires hart { h < length self.old.state.harts }
         requires outside { (hart_at self.old.state h).current ≡ untrusted }
         requires inside { IsOfModule context.seat }
-        ensures { let s = self.old.state in self.new.state
+        ensures stepped { let s = self.old.state in self.new.state
             ≡ with_hart s h (hart_in_context (hart_at s h) context) }
+        ensures cache { self.new.cache ≡ self.old.cache }
     {
         self.harts[h as usize].enter(context);
     }

@@ -12,6 +12,7 @@ ghost use Rattle.bn_model.specs.State.{hart_at, untrusted};
 ghost use Rattle.bn_model.specs.Switching.{stopped_at};
 ghost use Rattle.bn_model.specs.Walking.{vpn_of};
 ghost use Rattle.bn_machine.specs.Costs.{CountsAsked, CountsTurn};
+ghost use Rattle.bn_machine.specs.Keys.{HoldsKey, KeepsAsked, KeepsTurn};
 ghost use Rattle.bn_machine.specs.Making.{IsMade, MakesAsked, MakesTurn};
 ghost use Rattle.bn_machine.specs.Standing.{MayResume};
 
@@ -29,7 +30,7 @@ pub(super) const ILLEGAL_INSTRUCTION: Cause = Cause(2);
 impl Engine {
     /// A turn of hart h, which leaves its lines.
     #[inline(always)]
-    #[tactic(auto, unfolding(bn_model::specs::Deciding::decision_of, crate::specs::Costs::CountsTurn))]
+    #[tactic(auto, unfolding(bn_model::specs::Deciding::decision_of, crate::specs::Costs::CountsTurn, crate::specs::Keys::KeepsTurn))]
     pub(crate) fn take_turn<L: Ledger>(&mut self, h: u8, lines: &mut LineBuf, steps: &mut Steps<L>)
         requires sound { IsSound self.old.state }
         requires hart { h < length self.old.state.harts }
@@ -39,6 +40,7 @@ impl Engine {
         ensures sound { IsSound self.new.state }
         ensures few { let s = self.old.state in
             CountsTurn s h (hart_at s h) 30 steps.old steps.new }
+        ensures keys { KeepsTurn self.old.state h self.new.cache }
     {
         self.make_turn(h, lines, steps)
     }
@@ -54,6 +56,8 @@ impl Engine {
             (asked_of s h (hart_at s h)) }
         ensures few { let s = self.old.state in
             CountsAsked (asked_of s h (hart_at s h)) 30 steps.old steps.new }
+        ensures keys { let s = self.old.state in
+            KeepsAsked s h (asked_of s h (hart_at s h)) self.new.cache }
     {
         if self.harts[h as usize].is_started() {
             self.interrupt_or_go_on(h, lines, steps)
@@ -72,6 +76,8 @@ impl Engine {
             (asked_if_started true s h (hart_at s h)) }
         ensures few { let s = self.old.state in
             CountsAsked (asked_if_started true s h (hart_at s h)) 30 steps.old steps.new }
+        ensures keys { let s = self.old.state in
+            KeepsAsked s h (asked_if_started true s h (hart_at s h)) self.new.cache }
     {
         match self.interrupt(h) {
             Some(cause) => self.trap(h, cause, 0, lines),
@@ -116,6 +122,8 @@ impl Engine {
             (asked_of_interrupt s h (hart_at s h) None) }
         ensures few { let s = self.old.state in
             CountsAsked (asked_of_interrupt s h (hart_at s h) None) 30 steps.old steps.new }
+        ensures keys { let s = self.old.state in
+            KeepsAsked s h (asked_of_interrupt s h (hart_at s h) None) self.new.cache }
     {
         match self.fetch(h, steps) {
             Ok(word) => self.execute(h, word, lines, steps),
@@ -183,11 +191,15 @@ impl Engine {
         requires hart { h < length self.old.state.harts }
         requires clock { self.old.state.clock < 2 ^ 64 - 1 }
         requires empty { lines.old ≡ [] }
+        requires held { let s = self.old.state in
+            HoldsKey s h (hart_at s h).pc self.old.cache }
         ensures made { let hart = hart_at self.old.state h in
             MakesAsked self.old.state self.new.state lines.new h
             (asked_of_insn hart (insn_of word)) }
         ensures few { let hart = hart_at self.old.state h in
             CountsAsked (asked_of_insn hart (insn_of word)) 15 steps.old steps.new }
+        ensures keys { let s = self.old.state in
+            KeepsAsked s h (asked_of_insn (hart_at s h) (insn_of word)) self.new.cache }
     {
         match decode(word) {
             Some(insn) => self.execute_insn(h, &insn, lines, steps),
@@ -207,11 +219,15 @@ impl Engine {
         requires clock { self.old.state.clock < 2 ^ 64 - 1 }
         requires range { IsInRange insn.now }
         requires empty { lines.old ≡ [] }
+        requires held { let s = self.old.state in
+            HoldsKey s h (hart_at s h).pc self.old.cache }
         ensures made { let hart = hart_at self.old.state h in
             MakesAsked self.old.state self.new.state lines.new h
             (asked_of_insn hart (Some insn.now)) }
         ensures few { let hart = hart_at self.old.state h in
             CountsAsked (asked_of_insn hart (Some insn.now)) 15 steps.old steps.new }
+        ensures keys { let s = self.old.state in
+            KeepsAsked s h (asked_of_insn (hart_at s h) (Some insn.now)) self.new.cache }
     {
         let asked = self.asked(h, insn);
         self.carry_out(h, asked, lines, steps)

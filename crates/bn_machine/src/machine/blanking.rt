@@ -2,7 +2,7 @@
 ghost use Rattle.std.specs.Prelude.{◌≡◌};
 ghost use Rattle.bn_model.specs.Blanking as flat;
 ghost use Rattle.bn_model.specs.Running.{blind_at, state_before};
-ghost use Rattle.bn_model.specs.Standing.{StandsFor};
+ghost use Rattle.bn_machine.specs.Standing.{IsMachine};
 
 use crate::machine::Machine;
 use bn_types::{ModId, Steps};
@@ -15,7 +15,7 @@ impl Machine {
     /// zeroed costs three steps.
     pub fn blank<L: Ledger>(&mut self, id: ModId, steps: &mut Steps<L>)
         ensures blanked { self.new.state ≡ flat.blank id.0 self.old.state }
-        ensures stands { StandsFor self.new.parts self.new.state }
+        ensures stands { IsMachine self.new }
     {
         self.engine.blank(id, steps);
         // For the prover: the parts stand for a state of the flat machine.

@@ -5,7 +5,7 @@ ghost use Rattle.bn_types.specs.Numbers.{page_at, zero_page};
 ghost use Rattle.bn_model.specs.Nesting.{contents, place, table_frames};
 ghost use Rattle.bn_model.specs.Opening as flat;
 ghost use Rattle.bn_model.specs.Records.{AreRecords};
-ghost use Rattle.bn_model.specs.Standing.{StandsFor};
+ghost use Rattle.bn_machine.specs.Standing.{IsMachine};
 ghost use Rattle.bn_machine.specs.Loads.{opening_of};
 ghost use Rattle.bn_unit.specs.Memory.{AllPlaced};
 
@@ -42,8 +42,7 @@ impl Machine {
         requires entry { image.now.entry % 4 ≡ 0 }
         ensures opens { IfOk result (λ machine. machine.state
             ≡ opening_of settings image.now store) }
-        ensures stands { IfOk result (λ machine. StandsFor machine.parts
-            (opening_of settings image.now store)) }
+        ensures stands { IfOk result (λ machine. IsMachine machine) }
         // Each page has a frame. Beside them are the tables' frames and 16 to spare.
         ensures placed { IfOk result (λ machine. AllPlaced machine.parts.nest) }
         ensures frames { IfOk result (λ machine. length machine.parts.nest.frames

@@ -1,6 +1,6 @@
 //! Devices' access to memory.
 ghost use Rattle.std.specs.Prelude.{◌≡◌, ◌+◌, ◌<◌, ◌≤◌};
-ghost use Rattle.bn_model.specs.Standing.{StandsFor};
+ghost use Rattle.bn_machine.specs.Standing.{IsMachine};
 ghost use Rattle.bn_model.specs.Stepping.{seen_page};
 ghost use Rattle.bn_machine.specs.Making.{after_write};
 ghost use Rattle.bn_unit.specs.Memory.{byte_seen, is_seen};
@@ -32,7 +32,7 @@ impl Machine {
         requires { offset < 4096 }
         ensures seen { result ≡ is_seen (seen_page self.old.state page) }
         ensures written { self.new.state ≡ after_write self.old.state page offset byte }
-        ensures stands { StandsFor self.new.parts self.new.state }
+        ensures stands { IsMachine self.new }
         ensures few { steps.new ≤ steps.old + 3 }
     {
         let reached = self.engine.write_byte(page, offset, byte, steps);

@@ -2,10 +2,11 @@
 ghost use Rattle.std.specs.Prelude.{◌≡◌, ◌+◌, ◌-◌, ◌^◌, ◌<◌, [], None, false, length};
 ghost use Rattle.bn_types.specs.declared.event.Event.TheVariants as event;
 ghost use Rattle.bn_model.specs.Spelling.{text_of};
-ghost use Rattle.bn_model.specs.Standing.{StandsFor};
 ghost use Rattle.bn_model.specs.Stepping as flat;
 ghost use Rattle.bn_machine.specs.Costs.{CountsEvent};
+ghost use Rattle.bn_machine.specs.Keys.{KeepsEvent};
 ghost use Rattle.bn_machine.specs.Passing.{Makes, turn_number};
+ghost use Rattle.bn_machine.specs.Standing.{IsMachine};
 
 use crate::LineBuf;
 use crate::machine::Machine;
@@ -20,8 +21,9 @@ impl Machine {
         requires clock { self.old.state.clock < 2 ^ 64 - 1 }
         ensures stepped { self.new.state ≡ flat.step self.old.state event }
         ensures told { lines.new ≡ text_of (flat.lines self.old.state event) }
-        ensures stands { StandsFor self.new.parts self.new.state }
+        ensures stands { IsMachine self.new }
         ensures few { CountsEvent self.old.state event 30 steps.old steps.new }
+        ensures keys { KeepsEvent self.old.state event self.new.cache }
     {
         lines.clear();
         self.make_one(event, lines, steps);
@@ -44,6 +46,7 @@ impl Machine {
         ensures stepped { self.new.state ≡ flat.step self.old.state event }
         ensures told { lines.new ≡ text_of (flat.lines self.old.state event) }
         ensures few { CountsEvent self.old.state event 30 steps.old steps.new }
+        ensures keys { KeepsEvent self.old.state event self.new.cache }
     {
         match event {
             Event::Turn(hart) => {
@@ -72,6 +75,7 @@ impl Machine {
             lines.new }
         ensures few { most ≡ 1
             → CountsEvent self.old.state (event.Turn h) 30 steps.old steps.new }
+        ensures keys { most ≡ 1 → KeepsEvent self.old.state (event.Turn h) self.new.cache }
     {
         let mut made = 0;
         'turns: loop {
@@ -93,6 +97,7 @@ impl Machine {
         ensures stepped { self.new.state ≡ flat.step self.old.state (event.Turn h) }
         ensures told { lines.new ≡ text_of (flat.lines self.old.state (event.Turn h)) }
         ensures few { CountsEvent self.old.state (event.Turn h) 30 steps.old steps.new }
+        ensures keys { KeepsEvent self.old.state (event.Turn h) self.new.cache }
     {
         self.engine.take_turn(h, lines, steps);
     }

@@ -50,7 +50,7 @@ returns-in-Err c =
     (ap (λ (x : State). x.rows) left) in
     let same = state_put_back s _ _ _ h c.leave-here.result c.in-Err.here c.requires.hart stands
     left
-    c.in-Err.ensures.same c.in-Err.ensures.back c.settle.ensures in
+    c.in-Err.ensures.same c.in-Err.ensures.back c.settle.ensures.stepped in
     let code = to_z-of_z w64 c.code_of.result (sfits_lit (yes_ltb c.code_of.type_inv))
     ∙ c.code_of.ensures in
     record {

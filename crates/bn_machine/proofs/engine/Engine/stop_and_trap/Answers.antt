@@ -9,7 +9,7 @@ use Rattle.bn_machine.proofs.engine.Engine.stop_and_trap.Goals as goal
 pub returns-clause-stepped : goal.returns-clause-stepped
 returns-clause-stepped c =
     state_trapped_inside c.args.self.now.state _ _ c.args.hart c.args.cause c.args.value
-    c.requires.hart c.requires.inside c.stop.ensures c.enter_trap.ensures.stepped
+    c.requires.hart c.requires.inside c.stop.ensures.stepped c.enter_trap.ensures.stepped
 
 pub returns-clause-told : goal.returns-clause-told
 returns-clause-told c =
@@ -20,5 +20,5 @@ returns-clause-told c =
     c.push.new.self ≡ c.args.lines.now
     ++ spelling (line.Stop m.state.clock c.args.hart c.current.result c.pc-pc.result))
     c.self.view_is c.push.ensures.text))
-    (rw (← c.pc-pc.ensures, ← ap (λ (x : State). x.clock) c.stop.ensures)
+    (rw (← c.pc-pc.ensures, ← ap (λ (x : State). x.clock) c.stop.ensures.stepped)
     c.enter_trap.ensures.told)

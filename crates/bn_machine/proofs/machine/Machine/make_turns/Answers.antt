@@ -5,8 +5,8 @@ use Rattle.bn_model.specs.State.{State}
 use Rattle.bn_model.specs.Stepping.{step}
 use Rattle.bn_model.proofs.SteppingLemmas.{clock_after, harts_after}
 use Rattle.bn_machine.specs.Passing.{IsSilent, state_after_events, text_in, turn_number}
-use Rattle.bn_machine.proofs.Passing.{empty-is, first-counts, more-silent, none-made, none-silent}
-use Rattle.bn_machine.proofs.Passing.{one-more-made}
+use Rattle.bn_machine.proofs.Passing.{empty-is, first-counts, first-keeps, more-silent, none-made}
+use Rattle.bn_machine.proofs.Passing.{none-silent, one-more-made}
 use Rattle.bn_machine.proofs.machine.Machine.make_turns.Goals as goal
 
 pub turns-init : goal.turns-init
@@ -25,6 +25,12 @@ returns-then-made-most-clause-few g c =
     first-counts c.args.h c.args.most c.turns.made c.args.self.now.state c.turns.self.state
     c.args.steps.now c.turns.steps c.take_turn.new.steps c.turns.invariant.below
     c.turns.invariant.reached c.turns.invariant.first c.take_turn.ensures.few
+
+pub returns-then-made-most-clause-keys : goal.returns-then-made-most-clause-keys
+returns-then-made-most-clause-keys g c =
+    first-keeps c.args.h c.args.most c.turns.made c.args.self.now.state c.turns.self.state
+    c.take_turn.new.self.cache c.turns.invariant.below c.turns.invariant.reached
+    c.take_turn.ensures.keys
 
 pub turns-preserved : goal.turns-preserved
 turns-preserved g c =
