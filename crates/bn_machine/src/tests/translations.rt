@@ -67,6 +67,29 @@ fn try_leaf<L: Ledger>(rt: &impl Abort, alloc: Global, blank: Blank)
     assert_eq!(rt; load(&mut unit, 0, &mut steps), (false, None, false));
 }
 
+fn try_hits<L: Ledger>(rt: &impl Abort, alloc: Global, blank: Blank)
+    requires name { blank.name ≡ L.name }
+    requires parts { blank.parts ≡ L.parts }
+    requires some { 0 < L.parts }
+{
+    let mut steps = Steps::<L>::open(blank);
+    let mut unit = unit_with_pages(rt, alloc, &mut steps);
+    let who = paged();
+    assert_eq!(rt; unit.load_held(&who, 0, Width::B8), None);
+    assert!(rt; !unit.store_held(&who, 8, Width::B1, 9));
+    assert_eq!(rt; load(&mut unit, 0, &mut steps), (false, Some(3), true));
+    assert_eq!(rt; unit.load_held(&who, 0, Width::B8), Some(3));
+    assert_eq!(rt; unit.fetch_held(&who, 0), Some(3));
+    // misaligned, and of another hart
+    assert_eq!(rt; unit.load_held(&who, 4, Width::B8), None);
+    assert_eq!(rt; unit.load_held(&Asker { hart: 1, ..who }, 0, Width::B8), None);
+    assert!(rt; unit.store_held(&who, 8, Width::B1, 9));
+    assert_eq!(rt; unit.load_held(&who, 8, Width::B8), Some(9));
+    // a new leaf in the last table
+    store_word(rt, &mut unit, 0x80004000, 0x200014cf, &mut steps);
+    assert_eq!(rt; unit.load_held(&who, 0, Width::B8), None);
+}
+
 fn try_set<L: Ledger>(rt: &impl Abort, alloc: Global, blank: Blank)
     requires name { blank.name ≡ L.name }
     requires parts { blank.parts ≡ L.parts }
@@ -116,6 +139,11 @@ fn try_launch<L: Ledger>(rt: &impl Abort, alloc: Global, blank: Blank)
 #[test]
 fn a_written_table_is_walked_again(rt: HostRuntime) {
     try_leaf::<Brand>(&rt, rt.alloc(), Blank::new(1));
+}
+
+#[test]
+fn a_held_translation_answers_alone(rt: HostRuntime) {
+    try_hits::<Brand>(&rt, rt.alloc(), Blank::new(1));
 }
 
 #[test]
