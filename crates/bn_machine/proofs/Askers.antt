@@ -1,19 +1,16 @@
 -- What the memory unit wants to know of the modules.
-use Rattle.std.proofs.Common.{◌≡◌, ℕ, zero, suc, ◌<◌, Bool, true, false, List, Option, Some, None}
+use Rattle.std.proofs.Common.{◌≡◌, ℕ, zero, suc, true, false, List, Option, Some, None}
 use Rattle.std.proofs.Common.{[], ◌∷◌, length, refl, sym, ap, ◌∙◌, subst, arith, is_some}
 use Rattle.std.proofs.lemmas.Bool.{false_from_ne_true}
 use Rattle.bn_types.specs.declared.asker.Asker.{Asker}
-use Rattle.bn_types.specs.declared.decl.Decl.{Decl}
 use Rattle.bn_types.specs.declared.mod_id.ModId.{ModId}
 use Rattle.bn_types.specs.declared.row.Row.{Row}
 use Rattle.bn_types.specs.declared.row_state.RowState.{RowState}
 use Rattle.bn_types.specs.declared.row_state.RowState.TheVariants.{Running}
-use Rattle.bn_types.specs.declared.sort.Sort.{Sort}
-use Rattle.bn_types.specs.declared.sort.Sort.TheVariants.{Accept}
 use Rattle.bn_model.specs.declared.owner.Owner.{Owner}
-use Rattle.bn_model.specs.Owners.{Claim, claim_by, claims, is_live, is_own}
+use Rattle.bn_model.specs.Owners.{claim_by, is_live, is_own}
 use Rattle.bn_model.specs.Rows.{Enclave, enclaves, owner_of, owners, row_of}
-use Rattle.bn_model.specs.Soundness.{Ascend, AreStates, Has, HasClaims, IsSound, state_at}
+use Rattle.bn_model.specs.Soundness.{Ascend, HasClaims, IsSound}
 use Rattle.bn_model.specs.Soundness.{state_if_some}
 use Rattle.bn_model.specs.State.{Hart, State, asker, hart_at}
 use Rattle.bn_model.proofs.IdLemmas.{live-between}

@@ -1,6 +1,6 @@
 -- Events that are made in one go.
-use Rattle.std.proofs.Common.{◌≡◌, ℕ, zero, suc, ◌+◌, ◌%◌, ◌<◌, ◌≤◌, ◌-◌, true, false, List, []}
-use Rattle.std.proofs.Common.{◌∷◌, ◌&&◌, Bool, Some, None, Option, refl, sym, ap, ◌∙◌, subst, arith}
+use Rattle.std.proofs.Common.{◌≡◌, ℕ, zero, suc, ◌+◌, ◌<◌, ◌≤◌, ◌-◌, true, false, List, []}
+use Rattle.std.proofs.Common.{◌∷◌, Some, None, Option, refl, sym, ap, ◌∙◌, subst, arith}
 use Rattle.std.proofs.Common.{add-one, length}
 use Rattle.std.proofs.lemmas.Bool.{and_parts}
 use Rattle.std.proofs.lemmas.Bool.Decides.{nat_tests}
@@ -17,7 +17,6 @@ use Rattle.bn_model.specs.Scripts.{IsOrderly, Script, after_event, after_events,
 use Rattle.bn_model.specs.Scripts.{first_events}
 use Rattle.bn_model.specs.Spelling.{text_of}
 use Rattle.bn_model.specs.State.{State}
-use Rattle.bn_model.proofs.ScriptLemmas.{after-more}
 use Rattle.bn_script.specs.Drawing.{is_lone, is_over}
 use Rattle.bn_machine.specs.Passing.{AreSilent, IsSilent, Makes, after_event_in, event_number}
 use Rattle.bn_unit.specs.Holding.{Cache}
@@ -239,7 +238,8 @@ pub underway-silent : (blind : Option Blind) (start now : State) (all : Script)
     (limit made : ℕ) (old sink : SinkAccount) (count : ℕ)
     → IsUnderway blind start now all limit made old sink
     → AreSilent blind (event_number (after_events made all)) count now → made + count < limit
-    → IsUnderway blind start (state_after_events blind (event_number (after_events made all)) count now) all limit
+    → IsUnderway blind start
+    (state_after_events blind (event_number (after_events made all)) count now) all limit
     (made + count) old sink
 unfolding AreSilent state_after_events
 underway-silent blind start now all limit made old sink zero underway silent below =
@@ -254,7 +254,8 @@ underway-silent blind start now all limit made old sink (suc count) underway sil
     let next = state_after_events blind (event_number (after_events made all)) (suc count) now in
     subst (λ (n : ℕ). IsUnderway blind start next all limit n old sink) e
     (underway_more blind start
-    (state_after_events blind (event_number (after_events made all)) count now) all limit (made + count) old sink
+    (state_after_events blind (event_number (after_events made all)) count now) all limit
+    (made + count) old sink
     before (omega (arith, below)) (event_number (after_events made all) count)
     (ap (λ (t : Script). next_event t) left) sink silent.1.on
     (sym (appended-nil sink.written)
@@ -279,8 +280,9 @@ pub last-made : (blind : Option Blind) (start now new : State) (all script : Scr
     → made < limit → Makes blind (event_number script) (limit - made) count now new text
     → IsLast blind start all limit (made + count) old sink new text
 last-made blind start now new all script limit made count old sink text underway drawn below makes =
-    let makes = subst (λ (t : Script). Makes blind (event_number t) (limit - made) count now new text) drawn makes
-    in let one = makes.one in let few = makes.few in
+    let makes = subst (λ (t : Script).
+    Makes blind (event_number t) (limit - made) count now new text) drawn makes in
+    let one = makes.one in let few = makes.few in
     let inside : made + makes.others < limit = omega (arith, one, few, below) in
     record {
       before = made + makes.others;

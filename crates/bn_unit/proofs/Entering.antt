@@ -1,7 +1,7 @@
 -- A translation that is entered is right.
 use Rattle.std.proofs.Common.{◌≡◌, ℕ, ◌+◌, ◌-◌, ◌<◌, ◌≤◌, ◌⊎◌, inl, inr, Bool, true, false, cond}
-use Rattle.std.proofs.Common.{nat_lt, List, Option, Some, None, Result, Ok, Err, refl, sym, ap, ◌∙◌, subst, arith}
-use Rattle.std.proofs.lemmas.Bool.{cases_lt, le-ltb, lt-ltb}
+use Rattle.std.proofs.Common.{nat_lt, List, Some, None, Result, Ok, sym, ap, ◌∙◌, subst, arith}
+use Rattle.std.proofs.lemmas.Bool.{cases_lt, lt-ltb}
 use Rattle.bn_types.specs.declared.asker.Asker.{Asker}
 use Rattle.bn_types.specs.declared.frame.Frame.{Frame}
 use Rattle.bn_types.specs.declared.gpn.Gpn.{Gpn}
@@ -15,7 +15,6 @@ use Rattle.bn_model.specs.Nesting.{Nested, place}
 use Rattle.bn_model.specs.Walking.{Landing, WalkFault, guest_page, leaf_of, vpn_of}
 use Rattle.bn_tlb.specs.declared.entry.Entry.{Entry}
 use Rattle.bn_tlb.specs.declared.key.Key.{Key}
-use Rattle.bn_tlb.specs.declared.slot.Slot.{Slot}
 use Rattle.bn_tlb.specs.Caching.{Cache, after_fill}
 use Rattle.bn_tlb.specs.Caching.{AllHeld}
 use Rattle.bn_unit.specs.Holding.{IsRight, is_known, key_of, nested_memory}

@@ -1,10 +1,9 @@
 -- Translations stay right where modules go, once those leave that touch the pages that they leave.
-use Rattle.std.proofs.Common.{◌≡◌, ℕ, zero, suc, ◌<◌, ◌==◌, ◌&&◌, ◌||◌, Bool, true, false, not, List}
-use Rattle.std.proofs.Common.{[], filter, find, get_or, Option, Some, refl, sym, ap, ◌∙◌, subst}
+use Rattle.std.proofs.Common.{◌≡◌, ℕ, zero, suc, ◌&&◌, Bool, true, false, not, List}
+use Rattle.std.proofs.Common.{get_or, Some, refl, sym, ap, ◌∙◌, subst}
 use Rattle.std.proofs.Common.{eq-eqb, eqb-true}
 use Rattle.std.proofs.lemmas.Bool.{both_ways, false_from_ne_true, or_parts}
 use Rattle.std.proofs.lemmas.Map.Views.{any-filter_same}
-use Rattle.std.specs.List.{list_any}
 use Rattle.bn_types.specs.declared.decl.Decl.{Decl}
 use Rattle.bn_types.specs.declared.gpn.Gpn.{Gpn}
 use Rattle.bn_types.specs.declared.mod_id.ModId.{ModId}
@@ -15,7 +14,7 @@ use Rattle.bn_model.specs.declared.owner.Owner.{Owner}
 use Rattle.bn_model.specs.Admission.{declaration, declared_by, is_backed}
 use Rattle.bn_model.specs.Evicting.{is_among, is_given_up}
 use Rattle.bn_model.specs.Nesting.{Nested}
-use Rattle.bn_model.specs.Owners.{Claim, claims, claims_by, is_live, is_module, is_on, is_own}
+use Rattle.bn_model.specs.Owners.{Claim, claims, claims_by, is_live, is_module, is_on}
 use Rattle.bn_model.specs.Owners.{is_owned}
 use Rattle.bn_model.specs.Soundness.{Has}
 use Rattle.bn_model.proofs.ClaimLemmas.{declared}

@@ -1,22 +1,20 @@
 -- A translation that is held answers as the tables and the rule of admission would.
-use Rattle.std.proofs.Common.{◌≡◌, ℕ, ◌+◌, ◌-◌, ◌<◌, Bool, true, false, cond, nat_lt, List, length, Option, Some}
-use Rattle.std.proofs.Common.{None, IfOk, Result, Ok, Err, refl, sym, ap, ap₂, ◌∙◌, subst, arith}
+use Rattle.std.proofs.Common.{◌≡◌, ℕ, ◌+◌, ◌-◌, ◌<◌, Bool, true, false, cond, nat_lt, List, length, Some}
+use Rattle.std.proofs.Common.{None, IfOk, Result, Ok, Err, refl, sym, ap, ◌∙◌, subst, arith}
 use Rattle.std.proofs.lemmas.Bool.{lt-ltb, le-ltb}
 use Rattle.bn_types.specs.declared.asker.Asker.{Asker}
-use Rattle.bn_types.specs.declared.cause.Cause.{Cause}
 use Rattle.bn_types.specs.declared.fault.Fault.{Fault}
 use Rattle.bn_types.specs.declared.kind.Kind.{Kind}
 use Rattle.bn_types.specs.declared.mode.Mode.{Mode}
 use Rattle.bn_model.specs.declared.owner.Owner.{Owner}
-use Rattle.bn_model.specs.declared.place.Place.{Place}
 use Rattle.bn_model.specs.Accessing.{place_by_walk, place_if_admitted, place_if_in_ram, place_on}
 use Rattle.bn_model.specs.Accessing.{walk_by}
 use Rattle.bn_model.specs.Admission.{admits, has_right}
-use Rattle.bn_model.specs.Memory.{Memory, visible}
+use Rattle.bn_model.specs.Memory.{Memory}
 use Rattle.bn_model.specs.Nesting.{Nested, contents, place}
-use Rattle.bn_model.specs.Walking.{Landing, NoLeaf, Refused, WalkFault, access_fault, guest_page}
-use Rattle.bn_model.specs.Walking.{landing_if, landing_or_cause, leaf_of, page_fault, permits}
-use Rattle.bn_model.specs.Walking.{vpn_of, walk_of}
+use Rattle.bn_model.specs.Walking.{Landing, NoLeaf, Refused, WalkFault, guest_page}
+use Rattle.bn_model.specs.Walking.{landing_if, landing_or_cause, permits}
+use Rattle.bn_model.specs.Walking.{vpn_of}
 use Rattle.bn_model.proofs.NestingLaws.{length-contents}
 use Rattle.bn_tlb.specs.declared.entry.Entry.{Entry}
 use Rattle.bn_tlb.specs.declared.key.Key.{Key}

@@ -1,6 +1,6 @@
 -- The leaf is the same for all addresses of a page.
 use Rattle.std.proofs.Common.{◌≡◌, ℕ, zero, suc, ◌+◌, ◌-◌, ◌*◌, ◌/◌, ◌%◌, ◌^◌, ◌==◌, Bool, true, false}
-use Rattle.std.proofs.Common.{cond, List, [], ◌∷◌, Option, Result, Ok, Err, refl, sym, ap, ap₂, ◌∙◌, arith}
+use Rattle.std.proofs.Common.{cond, List, Option, Ok, refl, ap, ap₂, ◌∙◌, arith}
 use Rattle.bn_model.specs.CsrFile.{satp_mode}
 use Rattle.bn_model.specs.Entries.{Invalid, LeafEntry, Pointer, flags_of, ppn_of}
 use Rattle.bn_model.specs.Walking.{Entry, TableEntry, Unread, Walk, ends, entry_at, entry_on}

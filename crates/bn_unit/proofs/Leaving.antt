@@ -1,15 +1,13 @@
 -- Translations that leave one after another.
 use Rattle.std.proofs.Common.{◌≡◌, ℕ, zero, suc, ◌+◌, ◌<◌, ◌≤◌, ◌==◌, ◌||◌, ◌⊎◌, inl, inr, Bool, true}
-use Rattle.std.proofs.Common.{false, List, [], ◌∷◌, length, drop, get_or, refl, sym, ap, ◌∙◌, subst}
-use Rattle.std.proofs.Common.{arith, add-one, drop-cons, drop_of_length-le, eq-eqb, eqb-true}
+use Rattle.std.proofs.Common.{false, List, [], ◌∷◌, length, drop, get_or, refl, sym, ap, ◌∙◌}
+use Rattle.std.proofs.Common.{arith, add-one, drop-cons, drop_of_length-le}
 use Rattle.std.proofs.lemmas.Bool.{cases_eq}
 use Rattle.std.proofs.lemmas.Bool.Decides.{nat_tests}
-use Rattle.std.specs.List.{list_any}
 use Rattle.bn_types.specs.declared.decl.Decl.{Decl}
 use Rattle.bn_types.specs.declared.row.Row.{Row}
 use Rattle.bn_model.specs.declared.owner.Owner.{Owner}
 use Rattle.bn_model.specs.Evicting.{is_among}
-use Rattle.bn_model.specs.Rows.{has_id}
 use Rattle.bn_model.specs.Soundness.{Has}
 use Rattle.bn_tlb.specs.Caching.{Cache, after_drop, is_of, touches}
 use Rattle.bn_tlb.specs.declared.slot.Slot.{Slot}

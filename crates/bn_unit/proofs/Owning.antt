@@ -1,8 +1,8 @@
 -- Translations stay right where a module comes, once those leave that touch its pages.
-use Rattle.std.proofs.Common.{◌≡◌, ℕ, zero, suc, ◌==◌, ◌||◌, ◌⊎◌, inl, inr, Bool, true, false, List, []}
-use Rattle.std.proofs.Common.{◌∷◌, ◌++◌, map, find, get_or, Option, Some, None, refl, sym, ap, ◌∙◌, subst}
+use Rattle.std.proofs.Common.{◌≡◌, ℕ, zero, suc, ◌||◌, ◌⊎◌, inl, inr, Bool, true, false, List, []}
+use Rattle.std.proofs.Common.{◌∷◌, ◌++◌, get_or, refl, sym, ap, ◌∙◌, subst}
 use Rattle.std.proofs.Common.{eq-eqb, eqb-true, ◌<◌, length}
-use Rattle.std.proofs.lemmas.Bool.{both_ways, false_from_ne_true, or_parts, or_right}
+use Rattle.std.proofs.lemmas.Bool.{both_ways, false_from_ne_true, or_parts}
 use Rattle.std.proofs.lemmas.List.Folds.{list_any-append, list_any_at}
 use Rattle.std.specs.List.{list_any}
 use Rattle.bn_types.specs.declared.decl.Decl.{Decl}
@@ -18,7 +18,7 @@ use Rattle.bn_model.specs.Soundness.{Has}
 use Rattle.bn_model.proofs.MembershipLemmas.{any-has, append-has, flat_map-has, has-any}
 use Rattle.bn_model.proofs.MembershipLemmas.{has-flat_map, map-has}
 use Rattle.bn_model.proofs.TestLemmas.{find-push}
-use Rattle.bn_tlb.specs.Caching.{Cache, is_page, is_walked, leads_to, touches}
+use Rattle.bn_tlb.specs.Caching.{Cache, is_page, is_walked, leads_to}
 use Rattle.bn_tlb.specs.declared.slot.Slot.{Slot}
 use Rattle.bn_unit.specs.Dropping.{cache_without}
 use Rattle.bn_tlb.specs.Caching.{AllHeld}

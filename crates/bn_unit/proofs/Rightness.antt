@@ -1,29 +1,27 @@
 -- What keeps a translation right: changes that reach neither its tables, nor its frame, nor what is
 -- admitted at its page.
-use Rattle.std.proofs.Common.{◌≡◌, ℕ, zero, suc, ◌+◌, ◌*◌, ◌/◌, ◌^◌, ◌<◌, ◌≤◌, ◌==◌, ◌⊎◌, inl, inr}
+use Rattle.std.proofs.Common.{◌≡◌, ℕ, zero, suc, ◌*◌, ◌<◌, ◌≤◌, ◌==◌, ◌⊎◌, inl, inr}
 use Rattle.std.proofs.Common.{Bool, true, false, not, ◌&&◌, List, [], ◌∷◌, length, get_or, set, Option}
 use Rattle.std.proofs.Common.{Some, None, Result, Ok, Err, refl, sym, ap, ◌∙◌, subst, arith, slice_get}
 use Rattle.std.proofs.Common.{eq-eqb, eqb-true}
 use Rattle.std.proofs.lemmas.Bool.{both_ways, cases_lt, false_from_ne_true, and_parts, not-true}
-use Rattle.std.proofs.lemmas.List.Elements.{All-weaker}
 use Rattle.std.proofs.lemmas.List.Folds.{list_any_at}
 use Rattle.std.specs.List.{All, list_any}
 use Rattle.std.specs.Option.{option_map}
 use Rattle.std.specs.Prelude.{slice_set}
-use Rattle.bn_types.specs.Numbers.{page_at}
 use Rattle.bn_types.specs.Visible.{state_at}
 use Rattle.bn_types.specs.declared.decl.Decl.{Decl}
 use Rattle.bn_types.specs.declared.gpn.Gpn.{Gpn}
 use Rattle.bn_types.specs.declared.kind.Kind.{Kind}
 use Rattle.bn_types.specs.declared.page_state.PageState.TheVariants.{Free, Owned, Outside}
 use Rattle.bn_model.specs.declared.owner.Owner.{Owner}
-use Rattle.bn_model.specs.Admission.{admits, admits_by, admits_declared, declaration, has_right}
+use Rattle.bn_model.specs.Admission.{admits, admits_by, declaration, has_right}
 use Rattle.bn_model.specs.Admission.{is_backed, may_leave}
-use Rattle.bn_model.specs.Memory.{Memory, readable_page, visible}
+use Rattle.bn_model.specs.Memory.{readable_page, visible}
 use Rattle.bn_model.specs.Nesting.{Nested, contents, place}
 use Rattle.bn_model.specs.Owners.{is_owned}
 use Rattle.bn_model.specs.WalkLaws.{AgreeOn, AllFree}
-use Rattle.bn_model.specs.Walking.{Landing, WalkEnd, WalkFault, landing_of, leaf_of, tables_read}
+use Rattle.bn_model.specs.Walking.{Landing, WalkEnd, WalkFault, landing_of, tables_read}
 use Rattle.bn_model.specs.Walking.{vpn_of, walked}
 use Rattle.bn_model.proofs.ClaimLemmas.{three-true}
 use Rattle.bn_model.proofs.EachLemmas.{get-each}

@@ -96,7 +96,7 @@ impl Unit {
     }
 
     /// What holds of every unit: its tables are the tree of its placement, each page of RAM has a
-    /// frame and 4,096 bytes, and each translation that is held is right, in the set of its key, and
+    /// frame and 4,096 bytes, and each translation that is held is right, in the set of its key and
     /// there once. It does nothing.
     pub fn facts(&self)
         ensures nested { IsNested self.now.nest }

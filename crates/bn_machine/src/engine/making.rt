@@ -165,7 +165,8 @@ impl Engine {
         requires hart { hart < length self.old.state.harts }
         requires clock { self.old.state.clock < 2 ^ 64 - 1 }
         requires register { rd.0 < 32 }
-        ensures stepped { self.new.state ≡ state_after self.old.state hart (turn.Jump target rd link) }
+        ensures stepped { self.new.state
+            ≡ state_after self.old.state hart (turn.Jump target rd link) }
         ensures cache { self.new.cache ≡ self.old.cache }
     {
         self.harts[hart as usize].jump(target, rd, link);

@@ -86,8 +86,8 @@ impl Machine {
         let _engine = &self.engine;
     }
 
-    /// Makes the next events of a script, where there are no lines yet, until one has lines or shuts
-    /// the machine down: at least one, and at most so many. It tells how many.
+    /// Makes the next events of a script, where there are no lines yet, until one has lines or
+    /// shuts the machine down: at least one, and at most so many. It tells how many.
     #[inline(always)]
     fn make_events<L: Ledger>(
         &mut self,

@@ -56,8 +56,8 @@ impl Machine {
         }
     }
 
-    /// Makes turns of hart h, where there are no lines yet, until one has lines or shuts the machine
-    /// down: at least one, and at most so many. It tells how many.
+    /// Makes turns of hart h, where there are no lines yet, until one has lines or shuts the
+    /// machine down: at least one, and at most so many. It tells how many.
     #[inline(never)]
     pub(super) fn make_turns<L: Ledger>(
         &mut self,

@@ -110,8 +110,9 @@ pub fn store_word<L: Ledger>(
     assert_eq!(rt; stored, Ok(()));
 }
 
-/// A unit with tables. Entries 0 and 2 of the root, in page 1, lead low addresses to page 2, and RAM
-/// to its own addresses. A leaf of 2 MiB in page 2 leads to RAM's first page, and page 3 has a word.
+/// A unit with tables. Entries 0 and 2 of the root, in page 1, lead low addresses to page 2, and
+/// RAM to its own addresses. A leaf of 2 MiB in page 2 leads to RAM's first page, and page 3 has a
+/// word.
 fn unit_with_tables<L: Ledger>(rt: &impl Abort, alloc: Global, steps: &mut Steps<L>) -> Unit
     ensures live { result.live ≡ [] }
     ensures harts { result.cache.harts ≡ 2 }

@@ -82,7 +82,10 @@ fn try_hits<L: Ledger>(rt: &impl Abort, alloc: Global, blank: Blank)
     assert_eq!(rt; unit.fetch_held(&who, 0), Some(3));
     // misaligned, and of another hart
     assert_eq!(rt; unit.load_held(&who, 4, Width::B8), None);
-    assert_eq!(rt; unit.load_held(&Asker { hart: 1, ..who }, 0, Width::B8), None);
+    assert_eq!(rt;
+        unit.load_held(&Asker { hart: 1, ..who }, 0, Width::B8),
+        None
+    );
     assert!(rt; unit.store_held(&who, 8, Width::B1, 9));
     assert_eq!(rt; unit.load_held(&who, 8, Width::B8), Some(9));
     // a new leaf in the last table

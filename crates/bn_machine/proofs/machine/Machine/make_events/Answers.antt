@@ -1,7 +1,6 @@
 use Rattle.std.proofs.Common.{None, Option, ap, not, subst, sym, ◌∙◌, ℕ}
 use Rattle.bn_types.specs.declared.mod_id.ModId.{ModId}
 use Rattle.bn_model.specs.Running.{blind_at}
-use Rattle.bn_model.specs.Scripts.{after_events}
 use Rattle.bn_machine.specs.Passing.{Makes, event_number, turn_number}
 use Rattle.bn_machine.proofs.Passing.{first-event, lone-event, lone-left, makes-same, none-blind}
 use Rattle.bn_machine.proofs.Passing.{one-drawn, one-event}

@@ -1,10 +1,10 @@
-use Rattle.std.proofs.Common.{◌≡◌, ◌==◌, ◌+◌, [], None, false, true, length, refl, sym, ap, subst, ◌∙◌}
-use Rattle.std.proofs.Common.{List, ℕ, arith}
+use Rattle.std.proofs.Common.{◌≡◌, ◌==◌, ◌+◌, None, false, List, ℕ, length, arith, refl}
+use Rattle.std.proofs.Common.{sym, ap, subst, ◌∙◌}
 use Rattle.bn_types.specs.declared.event.Event.TheVariants.{Turn}
 use Rattle.bn_model.specs.State.{State}
 use Rattle.bn_model.specs.Stepping.{step}
 use Rattle.bn_model.proofs.SteppingLemmas.{clock_after, harts_after}
-use Rattle.bn_machine.specs.Passing.{IsSilent, state_after_events, text_in, turn_number}
+use Rattle.bn_machine.specs.Passing.{IsSilent, turn_number}
 use Rattle.bn_machine.proofs.Passing.{empty-is, first-counts, first-keeps, more-silent, none-made}
 use Rattle.bn_machine.proofs.Passing.{none-silent, one-more-made}
 use Rattle.bn_machine.proofs.machine.Machine.make_turns.Goals as goal

@@ -1,4 +1,4 @@
-use Rattle.std.proofs.Common.{◌≡◌, ◌+◌, ◌-◌, ◌<◌, [], None, false, length}
+use Rattle.std.proofs.Common.{◌≡◌, ◌+◌, ◌-◌, ◌<◌, [], None, length}
 use Rattle.bn_machine.specs.Passing.{AreSilent, state_after_events, turn_number}
 use Rattle.bn_machine.proofs.machine.Machine.make_turns.Given as goal
 

@@ -1,8 +1,6 @@
-use Rattle.std.proofs.Common.{◌∙◌, ◌+◌, ap, sym, subst, refl, arith, List, ℕ, length}
-use Rattle.bn_edge.specs.Written.{WritesFront, appended}
+use Rattle.std.proofs.Common.{◌∙◌, ap, sym, refl, arith}
 use Rattle.bn_model.specs.Running.{blind_at}
-use Rattle.bn_model.specs.Scripts.{Script, after_events, first_events}
-use Rattle.bn_model.specs.State.{State}
+use Rattle.bn_model.specs.Scripts.{Script, after_events}
 use Rattle.bn_model.proofs.ScriptLemmas.{events-harts}
 use Rattle.bn_machine.proofs.Passing.{drawn-made, last-finished, last-front, last-made}
 use Rattle.bn_machine.proofs.Passing.{last-stopped, last-underway, left-made, left-within}

@@ -1,5 +1,3 @@
-use Rattle.std.proofs.Common.{sym, subst}
-use Rattle.bn_tlb.specs.declared.key.Key.{Key}
 use Rattle.bn_unit.proofs.Entering.{held-entered, right-entered}
 use Rattle.bn_unit.proofs.Keeping.{held-filled}
 use Rattle.bn_unit.proofs.unit.Unit.hold.Goals as goal
