@@ -1,6 +1,6 @@
 -- What holds of each translation that is held.
-use Rattle.std.proofs.Common.{◌≡◌, ℕ, ◌*◌, ◌<◌, ◌≤◌, ◌==◌, ◌&&◌, ◌⊎◌, inl, inr, Bool, true, false}
-use Rattle.std.proofs.Common.{List, [], ◌∷◌, length, get_or, Option, Some, None, refl, sym, ap, ◌∙◌}
+use Rattle.std.proofs.Common.{◌≡◌, ℕ, ◌*◌, ◌<◌, ◌≤◌, ◌==◌, ◌⊎◌, inl, inr, Bool, true, false}
+use Rattle.std.proofs.Common.{List, [], length, get_or, Option, Some, None, refl, sym, ap, ◌∙◌}
 use Rattle.std.proofs.Common.{subst, eqb-true}
 use Rattle.std.proofs.lemmas.Bool.{cases_lt, not-true}
 use Rattle.std.proofs.lemmas.List.{get_or_past}
@@ -9,8 +9,6 @@ use Rattle.std.proofs.lemmas.List.Elements.{All-push, All-replicate, All-set, Al
 use Rattle.std.proofs.lemmas.List.Elements.{filter_passes}
 use Rattle.std.specs.List.{All}
 use Rattle.std.specs.Prelude.{find}
-use Rattle.bn_types.specs.declared.mod_id.ModId.{ModId}
-use Rattle.bn_types.specs.declared.vpn.Vpn.{Vpn}
 use Rattle.bn_model.proofs.ClaimLemmas.{three-true}
 use Rattle.bn_model.proofs.MembershipLemmas.{all-has, has-find}
 use Rattle.bn_model.proofs.TestLemmas.{find-passes}
@@ -20,6 +18,17 @@ use Rattle.bn_tlb.specs.declared.slot.Slot.{Slot}
 use Rattle.bn_tlb.specs.Caching.{AllHeld, Cache, after_drop, after_fill, empty_cache, entry_if, filled, found}
 use Rattle.bn_tlb.specs.Caching.{held, is_at, is_key, set_number, set_of, stays, with_room}
 use Rattle.bn_tlb.specs.Caching.{with_room_if, without}
+
+-- what is the same in each part is the same
+pub same-key : (one other : Key) → is_key one other ≡ true → one ≡ other
+same-key one other same =
+    let parts = three-true _ _ _ same in
+    ap (λ (n : ℕ). let k : Key = record one { vpn = record { 0 = n } } in k)
+    (eqb-true one.vpn.0 other.vpn.0 parts.0)
+    ∙ ap (λ (n : ℕ). let k : Key = record one { vpn = other.vpn; satp = n } in k)
+    (eqb-true one.satp other.satp parts.1)
+    ∙ ap (λ (n : ℕ). let k : Key = record other { «module» = record { 0 = n } } in k)
+    (eqb-true one.«module».0 other.«module».0 parts.2)
 
 -- each translation of each set
 abbrev pub AllIn : (Slot → Type 0) → List Slot → Type 0
@@ -67,16 +76,6 @@ module _ (P : Slot → Type 0) (m : Cache) (all : AllHeld P m) where
   held-found hart key entry e = go (find (is_at key) was) refl e where
     was : List Slot
     was = held m hart (set_of key)
-
-    same-key : (one other : Key) → is_key one other ≡ true → one ≡ other
-    same-key one other same =
-        let parts = three-true _ _ _ same in
-        ap (λ (n : ℕ). let k : Key = record one { vpn = record { 0 = n } } in k)
-        (eqb-true one.vpn.0 other.vpn.0 parts.0)
-        ∙ ap (λ (n : ℕ). let k : Key = record one { vpn = other.vpn; satp = n } in k)
-        (eqb-true one.satp other.satp parts.1)
-        ∙ ap (λ (n : ℕ). let k : Key = record other { «module» = record { 0 = n } } in k)
-        (eqb-true one.«module».0 other.«module».0 parts.2)
 
     same-slot : (slot : Slot) → is_at key slot ≡ true → Some slot.entry ≡ Some entry
         → slot ≡ record { key = key; entry = entry }

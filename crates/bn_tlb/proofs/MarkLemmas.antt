@@ -1,17 +1,15 @@
 -- The pages that walks read are marked.
-use Rattle.std.proofs.Common.{◌≡◌, cond, ℕ, zero, suc, ◌+◌, ◌<◌, ◌≤◌, ◌==◌, ◌⊎◌, inl, inr, Bool, true}
-use Rattle.std.proofs.Common.{false, None, take_all, not, List, [], ◌∷◌, length, map, filter, take, get_or, set, refl}
-use Rattle.std.proofs.Common.{sym, ap, ap₂, ◌∙◌, subst, arith, eq-eqb, eqb-true, ◌||◌}
-use Rattle.std.proofs.lemmas.Bool.{both_ways, cases_eq, cases_lt, false_from_ne_true}
-use Rattle.std.proofs.lemmas.List.{get_or-set_other, get_or-set_same, get_or_past, length-set}
+use Rattle.std.proofs.Common.{◌≡◌, cond, ℕ, zero, suc, ◌+◌, ◌<◌, ◌≤◌, ◌==◌, Bool, true}
+use Rattle.std.proofs.Common.{false, None, take_all, not, List, [], ◌∷◌, length, map, take, get_or, set, refl}
+use Rattle.std.proofs.Common.{sym, ap, ap₂, ◌∙◌, subst, eq-eqb, eqb-true, ◌||◌}
+use Rattle.std.proofs.lemmas.Bool.{both_ways, false_from_ne_true}
 use Rattle.std.proofs.lemmas.List.Elements.{All-head, All-more, All-tail}
 use Rattle.std.proofs.lemmas.List.Folds.{list_any_at}
 use Rattle.std.specs.List.{All, list_any}
 use Rattle.std.specs.Prelude.{slice_set}
 use Rattle.bn_types.specs.declared.gpn.Gpn.{Gpn}
-use Rattle.bn_model.proofs.MembershipLemmas.{any-has}
 use Rattle.bn_tlb.specs.declared.slot.Slot.{Slot}
-use Rattle.bn_tlb.specs.Caching.{AllHeld, Cache, after_drop, after_fill, filled, found, is_page, is_walked, set_number, set_of, stays}
+use Rattle.bn_tlb.specs.Caching.{AllHeld, Cache, after_drop, after_fill, filled, found, is_page, is_walked, set_number, set_of}
 use Rattle.bn_tlb.specs.Caching.{without}
 use Rattle.bn_tlb.specs.Marking.{AreMarked, HasMarks, IsKept, is_marked}
 use Rattle.bn_tlb.proofs.CacheLemmas.{cache_filled, sets_filled}

@@ -1,6 +1,6 @@
-ghost use Rattle.std.specs.Prelude.{◌≡◌, ◌<◌, [], find, length};
+ghost use Rattle.std.specs.Prelude.{◌≡◌, ◌<◌, [], find, length, reverse};
 ghost use Rattle.std.specs.Option.{option_copied};
-ghost use Rattle.bn_tlb.specs.Caching.{entry_at, entry_if, filled, is_at, is_key, with_room};
+ghost use Rattle.bn_tlb.specs.Caching.{HeldOnce, entry_at, entry_if, filled, is_at, is_key, with_room};
 ghost use Rattle.bn_tlb.specs.Caching.{stays, without};
 ghost use Rattle.bn_tlb.specs.Sweeping.{leaves};
 
@@ -38,6 +38,7 @@ impl Set {
     /// The translation at the key.
     #[inline(always)]
     pub fn find(&self, key: &Key) -> Option<&Entry>
+        requires { HeldOnce self.now }
         ensures { option_copied result ≡ entry_at key.now self.now }
     {
         entry_of(slot_in(&self.slots, key))
@@ -71,9 +72,19 @@ fn entry_of(slot: Option<&Slot>) -> Option<&Entry>
 
 #[inline(always)]
 fn slot_in<'a>(slots: &'a [Slot], key: &Key) -> Option<&'a Slot>
+    requires { HeldOnce slots.now }
     ensures { option_copied result ≡ find (is_at key.now) slots.now }
 {
-    slots.iter().find(|slot| is_same(&slot.key, key))
+    newest_in(slots, key)
+}
+
+/// The newest translation at the key. It is looked for from the end on, where those stand that are
+/// in use.
+#[inline(always)]
+fn newest_in<'a>(slots: &'a [Slot], key: &Key) -> Option<&'a Slot>
+    ensures { option_copied result ≡ find (is_at key.now) (reverse slots.now) }
+{
+    slots.iter().rev().find(|slot| is_same(&slot.key, key))
 }
 
 #[inline(always)]
