@@ -1,5 +1,5 @@
-/* Lays the kernel out like guest.ld, with whole pages for the process behind it, which is linked for
-   its own virtual addresses. The files of the kernel have names that begin with kernel_. */
+/* Lays the kernel out like guest.ld, with whole pages for the process behind it, which is linked
+   for its own virtual addresses. The files of the kernel have names that begin with kernel_. */
 OUTPUT_ARCH(riscv)
 ENTRY(_start)
 

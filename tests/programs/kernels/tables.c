@@ -26,7 +26,7 @@ void map_ram(void)
             (void *)(RAM + page * PAGE_BYTES), READ | WRITE | EXECUTE | ACCESSED | DIRTY);
 }
 
-/* The kernel's addresses lead to themselves, so the instruction behind the write of satp is there. */
+/* RAM's addresses lead to themselves, so the instruction behind the write of satp is there. */
 void translate(void)
 {
     WRITE_CSR(satp, SV39 | (u64)&root >> PAGE_SHIFT);
