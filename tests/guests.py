@@ -3,6 +3,7 @@ import collections
 import hashlib
 import pathlib
 import re
+import shutil
 import subprocess
 import tempfile
 import textwrap
@@ -11,7 +12,7 @@ from interpreter import Machine
 
 HERE = pathlib.Path(__file__).resolve().parent
 TESTS = HERE.parent / "crates" / "bn_front" / "src" / "tests"
-PREFIX = "riscv64-unknown-elf-"
+PREFIXES = ("riscv64-unknown-elf-", "riscv64-linux-gnu-")
 # a trace of more lines than this is compared by its digest, since the prover reads it slowly
 LONG = 200
 # folders of guests that stand in one test module each: what they are, and the test's name
@@ -67,7 +68,9 @@ ALL = 60_000
 
 
 def tool(name, *words):
-    return subprocess.run([PREFIX + name, *words], check=True, capture_output=True, text=True).stdout
+    """What a tool of GNU's binutils prints, as it is installed."""
+    prefix = next((prefix for prefix in PREFIXES if shutil.which(prefix + name)), PREFIXES[0])
+    return subprocess.run([prefix + name, *words], check=True, capture_output=True, text=True).stdout
 
 
 def assembled(name):
@@ -80,7 +83,7 @@ def assembled_text(text):
     with tempfile.TemporaryDirectory() as folder:
         base = pathlib.Path(folder) / "guest"
         pathlib.Path(f"{base}.S").write_text(text)
-        tool("as", "-march=rv64i_zicsr", "-I", str(HERE / "guests"), "-o", f"{base}.o", f"{base}.S")
+        tool("as", "-march=rv64i_zicsr", "-mno-relax", "-I", str(HERE / "guests"), "-o", f"{base}.o", f"{base}.S")
         tool("ld", "-Ttext=0x80000000", "-e", "_start", "-o", f"{base}.elf", f"{base}.o")
         tool("objcopy", "-O", "binary", f"{base}.elf", f"{base}.img")
         return pathlib.Path(f"{base}.img").read_bytes()
