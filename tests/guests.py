@@ -73,17 +73,17 @@ def tool(name, *words):
     return subprocess.run([prefix + name, *words], check=True, capture_output=True, text=True).stdout
 
 
-def assembled(name):
-    """The bytes of a guest."""
-    return assembled_text((HERE / "guests" / f"{name}.S").read_text())
+def assembled(name, *options):
+    """The bytes of a guest, by more options of the assembler."""
+    return assembled_text((HERE / "guests" / f"{name}.S").read_text(), *options)
 
 
-def assembled_text(text):
+def assembled_text(text, *options):
     """The bytes of assembly, which begins at the start of RAM."""
     with tempfile.TemporaryDirectory() as folder:
         base = pathlib.Path(folder) / "guest"
         pathlib.Path(f"{base}.S").write_text(text)
-        tool("as", "-march=rv64i_zicsr", "-mno-relax", "-I", str(HERE / "guests"), "-o", f"{base}.o", f"{base}.S")
+        tool("as", "-march=rv64i_zicsr", *options, "-I", str(HERE / "guests"), "-o", f"{base}.o", f"{base}.S")
         tool("ld", "-Ttext=0x80000000", "-e", "_start", "-o", f"{base}.elf", f"{base}.o")
         tool("objcopy", "-O", "binary", f"{base}.elf", f"{base}.img")
         return pathlib.Path(f"{base}.img").read_bytes()
