@@ -1,5 +1,5 @@
-# Each of three harts has tables of its own, of which a module takes one: the root, a middle table, a
-# low table. Each of these harts is refused by its next access, whose walk may not read the table;
+# Each of three harts has tables of its own, of which a module takes one: the root, a middle table,
+# a low table. Each of these harts is refused by its next access, whose walk may not read the table;
 # when the module is evicted the tables are zeros. A fourth, whose tables are others, goes on.
 # ram 64
 # harts 4

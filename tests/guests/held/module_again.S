@@ -1,6 +1,6 @@
-# A module's page is read by the kernel, then by a module, then by the kernel, and then by other modules
-# of the same text: the first is evicted and its page written again, and then the address leads to
-# another page. Each finds what is its own.
+# A module's page is read by the kernel, then by a module, then by the kernel, and then by other
+# modules of the same text: the first is evicted and its page written again, and then the address
+# leads to another page. Each finds what is its own.
 # ram 64
 #= 0 a xa F . a xa F . b xb F .
 #: launch N 0 1 I
@@ -17,8 +17,8 @@
 #: evict N 0 3 1
     .include "held.inc"
     .equ CODE, 26
-    # the kernel loads, a module is launched and answers its letter, the kernel is denied, the module
-    # is evicted, and the kernel loads zeros
+    # the kernel loads, a module is launched and answers its letter, the kernel is denied, the
+    # module is evicted, and the kernel loads zeros
     .macro life
     loads
     copy_code module, CODE, 2

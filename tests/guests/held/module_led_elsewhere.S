@@ -1,7 +1,7 @@
-# A module loads from its page, over and over, by a translation. Another hart changes an entry of each
-# level, by a store of each width, so that the address leads to a page that isn't the module's: the
-# next load is denied, and the module is stopped. The kernel puts the entries back, and goes on to
-# where the module was stopped, which resumes it. At last it is told to return.
+# A module loads from its page, over and over, by a translation. Another hart changes an entry of
+# each level, by a store of each width, so that the address leads to a page that isn't the module's:
+# the next load is denied, and the module is stopped. The kernel puts the entries back, and goes on
+# to where the module was stopped, which resumes it. At last it is told to return.
 # ram 64
 # harts 2
 #= 0 r

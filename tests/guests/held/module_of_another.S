@@ -1,6 +1,6 @@
-# A module loads from a page that nobody owns, over and over. Another hart launches a module that takes
-# the page: the next load is denied, and the first module is stopped. When the second is evicted, the
-# first is resumed, loads zeros and returns.
+# A module loads from a page that nobody owns, over and over. Another hart launches a module that
+# takes the page: the next load is denied, and the first module is stopped. When the second is
+# evicted, the first is resumed, loads zeros and returns.
 # ram 64
 # harts 2
 #= 0 F.

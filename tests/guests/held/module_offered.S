@@ -1,6 +1,6 @@
-# A module loads from a page that another offers, over and over. Another hart evicts who offers it: the
-# next load is denied, and the module is stopped. A later module that offers the page gives the first
-# nothing.
+# A module loads from a page that another offers, over and over. Another hart evicts who offers it:
+# the next load is denied, and the module is stopped. A later module that offers the page gives the
+# first nothing.
 # ram 64
 # harts 2
 #= 0 FF

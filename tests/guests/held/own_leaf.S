@@ -1,6 +1,6 @@
-# The page is a table of its own walk: first the one with its leaf, then the middle one, then the root.
-# A store to the page, of each width, changes the entry that led there; the next access goes where it
-# leads now.
+# The page is a table of its own walk: first the one with its leaf, then the middle one, then the
+# root. A store to the page, of each width, changes the entry that led there; the next access goes
+# where it leads now.
 # ram 64
 #= 0 ace
 #= 0 bdf bdf bdf bdf

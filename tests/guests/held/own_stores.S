@@ -1,5 +1,5 @@
-# A hart changes an entry of each level by stores of each width, and accesses the page at once, with no
-# SFENCE.VMA: it finds what the tables say now.
+# A hart changes an entry of each level by stores of each width, and accesses the page at once, with
+# no SFENCE.VMA: it finds what the tables say now.
 # ram 64
 #= 0 ace
 #= 0 babababa dcdcdcdc fefefefe

@@ -1,5 +1,5 @@
-# Flags of a leaf, and of the entries that lead to it, changed byte by byte: the next load, fetch and
-# store are judged by what stands there now, and by what stood there before when it is put back.
+# Flags of a leaf, and of the entries that lead to it, changed byte by byte: the next load, fetch
+# and store are judged by what stands there now, and by what stood there before when it is put back.
 # ram 64
 #= 0 ace
 # V, R, W, X, A, D taken away, U and G given; no flag, X alone, R alone, V alone

@@ -1,5 +1,5 @@
-# Two roots, and Bare, take turns: an access is made by the satp of its turn, whatever its ASID, and by
-# the tables as they are then, also where they were changed while another root was in satp.
+# Two roots, and Bare, take turns: an access is made by the satp of its turn, whatever its ASID, and
+# by the tables as they are then, also where they were changed while another root was in satp.
 # ram 64
 #= 0 ace bdf ace bdf ace
 # by the same root with another ASID, and by the other root with that one

@@ -1,6 +1,6 @@
-# An entry of the middle table leads to a table, then it is a leaf of 2 MiB, then it leads to the table
-# again; three pages behind it are found at once where they are now. The same with an entry of the
-# root, whose leaf of 1 GiB leads beyond RAM.
+# An entry of the middle table leads to a table, then it is a leaf of 2 MiB, then it leads to the
+# table again; three pages behind it are found at once where they are now. The same with an entry of
+# the root, whose leaf of 1 GiB leads beyond RAM.
 # ram 64
 #= 0 abb ace
 #= 0 ijj ijg abb ace
