@@ -10,19 +10,20 @@ use crate::{Entry, Key};
 use arrayvec::ArrayVec;
 use std::marker::Model;
 
-/// At most four translations, the one that was filled first in front.
+/// At most four translations, the one that was filled first in front. They are kept the other way
+/// round, so that a search begins at a place that it need not look up, with those in use.
 #[derive(Drop)]
 pub struct Set {
     slots: ArrayVec<Slot, 4>,
 }
 
 impl Model for Set {
-    ghost use Rattle.std.specs.Prelude.{List};
+    ghost use Rattle.std.specs.Prelude.{List, reverse};
     ghost use Rattle.bn_tlb.specs.declared.slot.Slot.{Slot};
 
     ghost Value = { List Slot };
 
-    ghost view = { λ s. s.slots.items };
+    ghost view = { λ s. reverse s.slots.items };
 }
 
 impl Set {
@@ -49,7 +50,7 @@ impl Set {
         ensures { self.new ≡ filled slot self.old }
     {
         make_room(&mut self.slots);
-        self.slots.push(slot);
+        self.slots.insert(0, slot);
     }
 
     /// Drops those that leave.
@@ -70,21 +71,20 @@ fn entry_of(slot: Option<&Slot>) -> Option<&Entry>
     }
 }
 
+/// The only translation at the key, by its place from the newest on.
 #[inline(always)]
 fn slot_in<'a>(slots: &'a [Slot], key: &Key) -> Option<&'a Slot>
-    requires { HeldOnce slots.now }
-    ensures { option_copied result ≡ find (is_at key.now) slots.now }
+    requires { HeldOnce (reverse slots.now) }
+    ensures { option_copied result ≡ find (is_at key.now) (reverse slots.now) }
 {
     newest_in(slots, key)
 }
 
-/// The newest translation at the key. It is looked for from the end on, where those stand that are
-/// in use.
 #[inline(always)]
 fn newest_in<'a>(slots: &'a [Slot], key: &Key) -> Option<&'a Slot>
-    ensures { option_copied result ≡ find (is_at key.now) (reverse slots.now) }
+    ensures { option_copied result ≡ find (is_at key.now) slots.now }
 {
-    slots.iter().rev().find(|slot| is_same(&slot.key, key))
+    slots.iter().find(|slot| is_same(&slot.key, key))
 }
 
 #[inline(always)]
@@ -95,14 +95,12 @@ fn is_same(one: &Key, other: &Key) -> bool
 }
 
 fn make_room(slots: &mut ArrayVec<Slot, 4>)
-    ensures slots { slots.new.items ≡ with_room slots.old.items }
+    ensures slots { reverse slots.new.items ≡ with_room (reverse slots.old.items) }
     ensures room { length slots.new.items < 4 }
 {
     // For the prover: a length read is the length of the list.
     let _count = slots.len();
-    if slots.is_full() {
-        slots.remove(0);
-    }
+    slots.truncate(3);
 }
 
 fn keep_others(slots: &mut ArrayVec<Slot, 4>, leaving: &Leaving)
