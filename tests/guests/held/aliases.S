@@ -8,16 +8,16 @@
 #= 0 babababa dcdcdcdc fefefefe
     .include "held.inc"
     # x18 is where RAM's first page is by a superpage
-    .macro each_level access
+    .macro large_aliases
     li x6, 0x1000 * LOW + 8 * LOW_INDEX
     add x6, x6, x18
-    there_and_back \access, FIRST, SECOND, RWX
+    there_and_back loads, FIRST, SECOND, RWX
     li x6, 0x1000 * MIDDLE + 8 * MIDDLE_INDEX
     add x6, x6, x18
-    there_and_back \access, LOW, OTHER_LOW, TABLE
+    there_and_back calls, LOW, OTHER_LOW, TABLE
     li x6, 0x1000 * ROOT + 8 * ROOT_INDEX
     add x6, x6, x18
-    there_and_back \access, MIDDLE, OTHER_MIDDLE, TABLE
+    there_and_back stores, MIDDLE, OTHER_MIDDLE, TABLE
     .endm
     # the alias is this many pages behind the page
     .macro small_alias access, distance, index, first, second, flags
@@ -47,25 +47,9 @@ _start:
     small_alias stores, 3, ROOT_INDEX, MIDDLE, OTHER_MIDDLE, TABLE
     # 2 MiB
     li x18, (ROOT_INDEX << 30) + ((MIDDLE_INDEX + 1) << 21)
-    li x6, 0x1000 * LOW + 8 * LOW_INDEX
-    add x6, x6, x18
-    there_and_back loads, FIRST, SECOND, RWX
-    li x6, 0x1000 * MIDDLE + 8 * MIDDLE_INDEX
-    add x6, x6, x18
-    there_and_back calls, LOW, OTHER_LOW, TABLE
-    li x6, 0x1000 * ROOT + 8 * ROOT_INDEX
-    add x6, x6, x18
-    there_and_back stores, MIDDLE, OTHER_MIDDLE, TABLE
+    large_aliases
     # 1 GiB
     li x18, (ROOT_INDEX + 2) << 30
-    li x6, 0x1000 * LOW + 8 * LOW_INDEX
-    add x6, x6, x18
-    there_and_back loads, FIRST, SECOND, RWX
-    li x6, 0x1000 * MIDDLE + 8 * MIDDLE_INDEX
-    add x6, x6, x18
-    there_and_back calls, LOW, OTHER_LOW, TABLE
-    li x6, 0x1000 * ROOT + 8 * ROOT_INDEX
-    add x6, x6, x18
-    there_and_back stores, MIDDLE, OTHER_MIDDLE, TABLE
+    large_aliases
     jal x0, end
     .include "ends.inc"
