@@ -49,10 +49,4 @@ storing:
     watch store
     .include "ends.inc"
     .include "held_traps.inc"
-    .balign 2048
-text:
-    segment 1, 2, 0, 0x40606000
-    page 0x40605, PRIVATE, 3
-    page 0x40606, PRIVATE, 5
-    partners 2
-    .zero 128
+    .include "held_text.inc"

@@ -94,10 +94,4 @@ changes:
     .include "ends.inc"
 returns:
     .byte 0
-    .balign 2048
-text:
-    segment 1, 2, 0, 0x40606000
-    page 0x40605, PRIVATE, 3
-    page 0x40606, PRIVATE, 5
-    partners 2
-    .zero 128
+    .include "held_text.inc"
